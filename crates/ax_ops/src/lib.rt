@@ -1,0 +1,19 @@
+//! Widths, operations, orders, the shared list type and the small types that several layers name.
+#![tactic(auto)]
+
+pub mod items;
+pub mod operation;
+pub mod order;
+pub mod place;
+pub mod source;
+pub mod width;
+
+pub use items::Items;
+pub use operation::RmwOp;
+pub use order::{Access, Order};
+pub use place::{Place, Site};
+pub use source::{SourceEvent, SourceStatus};
+pub use width::Width;
+
+#[cfg(test)]
+mod tests;
