@@ -1,0 +1,219 @@
+// Memory: a list of regions.
+ghost use Rattle.std.specs.Prelude.{◌≡◌, ◌↔◌, ◌+◌, ◌-◌, ◌*◌, ◌<◌, ◌≤◌, ◌^◌, ℕ, List, [], IsTrue, length, slice_index, slice_index_or, slice_set, IfOk, replicate, map};
+ghost use Rattle.ax_store.specs.Places.{part_of, place_in, bytes_set, byte_at, is_inside, set_inside, put, all_inside, regions_of, is_mapped};
+ghost use Rattle.ax_store.specs.Bytes.{number_at, written, byte_of};
+
+use std::alloc::{AllocError, Global};
+use std::marker::Model;
+
+/// The bytes of one region.
+#[derive(Drop)]
+pub struct Region {
+    bytes: Vec<u8>,
+}
+
+impl Model for Region {
+    ghost use Rattle.std.specs.Prelude.{ℕ, List};
+
+    ghost Value = { List ℕ };
+
+    ghost view = { λ r. r.bytes.items };
+}
+
+impl Region {
+    fn byte(&self, o: u128) -> u8
+        ensures { result ≡ slice_index_or self.now o 0 }
+    {
+        if o < self.bytes.len() as u128 {
+            self.bytes[o as usize]
+        } else {
+            0
+        }
+    }
+
+    fn set(&mut self, o: u128, b: u8)
+        ensures { self.new ≡ slice_set self.old o b }
+    {
+        if o < self.bytes.len() as u128 {
+            self.bytes[o as usize] = b;
+        }
+    }
+
+    fn has(&self, o: u128) -> bool
+        ensures { IsTrue result ↔ (o < length self.now) }
+    {
+        o < self.bytes.len() as u128
+    }
+}
+
+fn region_number(a: u128) -> u128
+    ensures { result ≡ part_of a }
+{
+    if a < 0x10000 {
+        0
+    } else if a < 0x1000000 {
+        1
+    } else {
+        (a - 0x1000000) / 0x20000 + 2
+    }
+}
+
+fn region_offset(a: u128) -> u128
+    requires { a < 2 ^ 65 }
+    ensures { result ≡ place_in a }
+{
+    if a < 0x8000 {
+        a + 0x8000
+    } else if a < 0x10000 {
+        a - 0x8000
+    } else if a < 0x1000000 {
+        a - 0x10000
+    } else {
+        0x1ffff - (a - 0x1000000) % 0x20000
+    }
+}
+
+/// The lock table, the globals, and a frame for each processor.
+#[derive(Drop)]
+pub struct Memory {
+    regions: Vec<Region>,
+}
+
+impl Model for Memory {
+    ghost use Rattle.std.specs.Prelude.{ℕ, List};
+
+    ghost Value = { List (List ℕ) };
+
+    ghost view = { λ m. m.regions.items };
+}
+
+/// A region of n zeros.
+fn zeros(alloc: Global, n: usize) -> Result<Region, AllocError>
+    ensures { IfOk result (λ r. r ≡ replicate n 0) }
+{
+    Ok(Region {
+        bytes: vec![in alloc; 0u8; n]?,
+    })
+}
+
+impl Memory {
+    fn of_zeros(
+        alloc: Global,
+        table: u64,
+        globals: u64,
+        frames: &[u64],
+    ) -> Result<Memory, AllocError>
+        ensures { IfOk result (λ m. m ≡ regions_of table globals frames.now) }
+    {
+        let mut regions: Vec<Region> = Vec::new(alloc);
+        regions.push(zeros(alloc, table as usize)?)?;
+        regions.push(zeros(alloc, globals as usize)?)?;
+        for frame in frames {
+            regions.push(zeros(alloc, *frame as usize)?)?;
+        }
+        Ok(Memory { regions })
+    }
+
+    /// All bytes are 0.
+    pub fn new(
+        alloc: Global,
+        table: u64,
+        globals: u64,
+        frames: &[u64],
+    ) -> Result<Memory, AllocError>
+        ensures bytes { IfOk result (λ m. byte_at m ≡ (λ a. 0)) }
+        ensures inside { IfOk result (λ m. is_inside m ≡ is_mapped table globals frames.now) }
+    {
+        Memory::of_zeros(alloc, table, globals, frames)
+    }
+
+    pub fn byte(&self, a: u128) -> u8
+        requires { a < 2 ^ 65 }
+        ensures { result ≡ byte_at self.now a }
+    {
+        let r = region_number(a);
+        if r < self.regions.len() as u128 {
+            self.regions[r as usize].byte(region_offset(a))
+        } else {
+            0
+        }
+    }
+
+    pub fn inside(&self, a: u128) -> bool
+        requires { a < 2 ^ 65 }
+        ensures { result ≡ is_inside self.now a }
+    {
+        let r = region_number(a);
+        r < self.regions.len() as u128 && self.regions[r as usize].has(region_offset(a))
+    }
+
+    fn set_place(&mut self, a: u128, b: u8)
+        requires { a < 2 ^ 65 }
+        ensures { self.new ≡ bytes_set self.old a b }
+    {
+        let r = region_number(a);
+        if r < self.regions.len() as u128 {
+            let region = &mut self.regions[r as usize];
+            region.set(region_offset(a), b);
+        }
+    }
+
+    /// Writes one byte, if it is inside.
+    pub fn set(&mut self, a: u128, b: u8)
+        requires { a < 2 ^ 65 }
+        ensures bytes { byte_at self.new ≡ set_inside (is_inside self.old) (byte_at self.old) a b }
+        ensures inside { is_inside self.new ≡ is_inside self.old }
+    {
+        self.set_place(a, b);
+    }
+
+    /// Writes the low n bytes of a number.
+    pub fn write(&mut self, a: u64, n: u8, v: u128)
+        ensures bytes { byte_at self.new ≡ put (is_inside self.old) a n v (byte_at self.old) }
+        ensures inside { is_inside self.new ≡ is_inside self.old }
+    {
+        for i in 0..n {
+            self.set(a as u128 + i as u128, byte_of_number(v, i));
+        }
+    }
+
+    /// The number in n bytes.
+    pub fn read(&self, a: u64, n: u8) -> u128
+        requires { n ≤ 16 }
+        ensures number { result ≡ number_at (byte_at self.now) a n }
+        ensures small { result < 2 ^ (8 * n) }
+    {
+        let mut value: u128 = 0;
+        let mut i = n;
+        while i > 0 {
+            i -= 1;
+            value = value * 256 + self.byte(a as u128 + i as u128) as u128;
+        }
+        value
+    }
+
+    /// Are all n bytes inside?
+    pub fn all_inside(&self, a: u64, n: u8) -> bool
+        requires { n ≤ 16 }
+        ensures { result ≡ all_inside (is_inside self.now) a n }
+    {
+        for i in 0..n {
+            if !self.inside(a as u128 + i as u128) {
+                return false;
+            }
+        }
+        true
+    }
+}
+
+/// Byte i of a number.
+#[tactic(auto, using(crate::proofs::Places::byte_past))]
+pub fn byte_of_number(v: u128, i: u8) -> u8
+    ensures { result ≡ byte_of v i }
+{
+    if i < 16 {
+        (v >> (8 * i as u32) & 0xff) as u8
+    } else {
+        0
+    }
+}
