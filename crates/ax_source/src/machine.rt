@@ -1,0 +1,5 @@
+//! The machine.
+
+pub struct Machine {
+    pub x: u8,
+}
