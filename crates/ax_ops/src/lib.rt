@@ -1,6 +1,7 @@
 //! Widths, operations, orders, the shared list type and the small types that several layers name.
 #![tactic(auto)]
 
+pub mod bits;
 pub mod items;
 pub mod operation;
 pub mod order;
@@ -8,9 +9,10 @@ pub mod place;
 pub mod source;
 pub mod width;
 
+pub use bits::Bits;
 pub use items::Items;
-pub use operation::RmwOp;
-pub use order::{Access, Order};
+pub use operation::{RmwOp, apply};
+pub use order::{Access, Order, abi_number, from_abi, legal, merged};
 pub use place::{Place, Site};
 pub use source::{SourceEvent, SourceStatus};
 pub use width::Width;
