@@ -1,9 +1,10 @@
 -- The routines of libatomic: their names and their order (GCC libatomic ABI).
-use Rattle.std.specs.Prelude.{ℕ, List, codes}
+use Rattle.std.specs.Prelude.{ℕ, List, [], ◌∷◌, Option, codes, find, nat_eq}
+use Rattle.std.specs.Cmp.Lexicographic.{pointwise}
 use Rattle.ax_ops.specs.declared.routine.RoutineName.{RoutineName}
 use Rattle.ax_ops.specs.declared.routine.RoutineName.TheVariants.{Load1, Store1, Exchange1, CompareExchange1, FetchAdd1, FetchSub1, FetchAnd1, FetchOr1, FetchXor1, FetchNand1, Load2, Store2, Exchange2, CompareExchange2, FetchAdd2, FetchSub2, FetchAnd2, FetchOr2, FetchXor2, FetchNand2, Load4, Store4, Exchange4, CompareExchange4, FetchAdd4, FetchSub4, FetchAnd4, FetchOr4, FetchXor4, FetchNand4, Load8, Store8, Exchange8, CompareExchange8, FetchAdd8, FetchSub8, FetchAnd8, FetchOr8, FetchXor8, FetchNand8, Load16, Store16, Exchange16, CompareExchange16, FetchAdd16, FetchSub16, FetchAnd16, FetchOr16, FetchXor16, FetchNand16, Load, Store, Exchange, CompareExchange, IsLockFree}
 
-abbrev pub name_of : RoutineName → List ℕ
+unfoldable pub name_of : RoutineName → List ℕ
 name_of Load1 = codes "__atomic_load_1"
 name_of Store1 = codes "__atomic_store_1"
 name_of Exchange1 = codes "__atomic_exchange_1"
@@ -61,7 +62,7 @@ name_of CompareExchange = codes "__atomic_compare_exchange"
 name_of IsLockFree = codes "__atomic_is_lock_free"
 
 -- the place in the order, counted from 0
-abbrev pub number_of : RoutineName → ℕ
+unfoldable pub number_of : RoutineName → ℕ
 number_of Load1 = 0
 number_of Store1 = 1
 number_of Exchange1 = 2
@@ -117,3 +118,21 @@ number_of Store = 51
 number_of Exchange = 52
 number_of CompareExchange = 53
 number_of IsLockFree = 54
+
+abbrev pub all_routines : List RoutineName
+all_routines =
+    Load1 ∷ Store1 ∷ Exchange1 ∷ CompareExchange1 ∷ FetchAdd1 ∷
+    FetchSub1 ∷ FetchAnd1 ∷ FetchOr1 ∷ FetchXor1 ∷ FetchNand1 ∷
+    Load2 ∷ Store2 ∷ Exchange2 ∷ CompareExchange2 ∷ FetchAdd2 ∷
+    FetchSub2 ∷ FetchAnd2 ∷ FetchOr2 ∷ FetchXor2 ∷ FetchNand2 ∷
+    Load4 ∷ Store4 ∷ Exchange4 ∷ CompareExchange4 ∷ FetchAdd4 ∷
+    FetchSub4 ∷ FetchAnd4 ∷ FetchOr4 ∷ FetchXor4 ∷ FetchNand4 ∷
+    Load8 ∷ Store8 ∷ Exchange8 ∷ CompareExchange8 ∷ FetchAdd8 ∷
+    FetchSub8 ∷ FetchAnd8 ∷ FetchOr8 ∷ FetchXor8 ∷ FetchNand8 ∷
+    Load16 ∷ Store16 ∷ Exchange16 ∷ CompareExchange16 ∷ FetchAdd16 ∷
+    FetchSub16 ∷ FetchAnd16 ∷ FetchOr16 ∷ FetchXor16 ∷ FetchNand16 ∷
+    Load ∷ Store ∷ Exchange ∷ CompareExchange ∷ IsLockFree ∷ []
+
+-- the routine that a name names
+abbrev pub routine_named : List ℕ → Option RoutineName
+routine_named text = find (λ routine. pointwise nat_eq (name_of routine) text) all_routines

@@ -2,7 +2,7 @@
 
 ghost use Rattle.std.specs.Prelude.{◌≡◌, ◌<◌, ◌*◌, ◌^◌, ◌%◌};
 ghost use Rattle.ax_ops.specs.Width.{IsWidth};
-ghost use Rattle.ax_ops.specs.Operation.{result_of, signed};
+ghost use Rattle.ax_ops.specs.Operation.{operation_word, result_of, signed};
 
 use crate::bits::{Bits, greatest};
 
@@ -53,6 +53,21 @@ macro_rules! result_by {
             })*
         }
     };
+}
+
+macro_rules! word_by {
+    (($op:expr) $(($variant:ident, $word:literal, |$a:ident, $b:ident| $result:expr),)*) => {
+        match $op { $(RmwOp::$variant => $word,)* }
+    };
+}
+
+impl RmwOp {
+    /// The operation's word in LLVM's text.
+    pub fn word(self) -> &'static str
+        ensures { result.now ≡ operation_word self }
+    {
+        operations!(word_by(self))
+    }
 }
 
 /// What the operation leaves where it found `old`, with the operand `v`. Sums wrap, and `Max` and

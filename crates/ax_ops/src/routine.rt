@@ -1,7 +1,8 @@
 //! The names of libatomic's routines.
 
-ghost use Rattle.std.specs.Prelude.{◌≡◌, ◌<◌, ◌↔◌, IsSome, IfSome};
-ghost use Rattle.ax_ops.specs.Routine.{name_of, number_of};
+ghost use Rattle.std.specs.Prelude.{◌≡◌, ◌<◌, ◌↔◌, IsSome, IfSome, slice_get};
+ghost use Rattle.ax_ops.specs.declared.routine.RoutineName.{RoutineName};
+ghost use Rattle.ax_ops.specs.Routine.{all_routines, name_of, number_of, routine_named};
 
 /// A routine of libatomic (GCC libatomic ABI): for each size the ten calls of that size, and then
 /// the calls that take the size as an argument.
@@ -146,7 +147,67 @@ macro_rules! routine_by {
 }
 
 impl RoutineName {
+    /// The routines in order.
+    pub const ALL: [RoutineName; 55] = [
+        RoutineName::Load1,
+        RoutineName::Store1,
+        RoutineName::Exchange1,
+        RoutineName::CompareExchange1,
+        RoutineName::FetchAdd1,
+        RoutineName::FetchSub1,
+        RoutineName::FetchAnd1,
+        RoutineName::FetchOr1,
+        RoutineName::FetchXor1,
+        RoutineName::FetchNand1,
+        RoutineName::Load2,
+        RoutineName::Store2,
+        RoutineName::Exchange2,
+        RoutineName::CompareExchange2,
+        RoutineName::FetchAdd2,
+        RoutineName::FetchSub2,
+        RoutineName::FetchAnd2,
+        RoutineName::FetchOr2,
+        RoutineName::FetchXor2,
+        RoutineName::FetchNand2,
+        RoutineName::Load4,
+        RoutineName::Store4,
+        RoutineName::Exchange4,
+        RoutineName::CompareExchange4,
+        RoutineName::FetchAdd4,
+        RoutineName::FetchSub4,
+        RoutineName::FetchAnd4,
+        RoutineName::FetchOr4,
+        RoutineName::FetchXor4,
+        RoutineName::FetchNand4,
+        RoutineName::Load8,
+        RoutineName::Store8,
+        RoutineName::Exchange8,
+        RoutineName::CompareExchange8,
+        RoutineName::FetchAdd8,
+        RoutineName::FetchSub8,
+        RoutineName::FetchAnd8,
+        RoutineName::FetchOr8,
+        RoutineName::FetchXor8,
+        RoutineName::FetchNand8,
+        RoutineName::Load16,
+        RoutineName::Store16,
+        RoutineName::Exchange16,
+        RoutineName::CompareExchange16,
+        RoutineName::FetchAdd16,
+        RoutineName::FetchSub16,
+        RoutineName::FetchAnd16,
+        RoutineName::FetchOr16,
+        RoutineName::FetchXor16,
+        RoutineName::FetchNand16,
+        RoutineName::Load,
+        RoutineName::Store,
+        RoutineName::Exchange,
+        RoutineName::CompareExchange,
+        RoutineName::IsLockFree,
+    ];
+
     /// The routine's name as the ABI spells it.
+    #[tactic(auto, unfolding(crate::specs::Routine::name_of))]
     pub fn name(self) -> &'static str
         ensures { result.now ≡ name_of self }
     {
@@ -154,6 +215,7 @@ impl RoutineName {
     }
 
     /// The routine's number, which is its place in the order, counted from 0.
+    #[tactic(auto, unfolding(crate::specs::Routine::number_of))]
     pub fn number(self) -> u32
         ensures value { result ≡ number_of self }
         ensures below { result < 55 }
@@ -162,10 +224,29 @@ impl RoutineName {
     }
 
     /// The routine of a number. None exactly where there is none.
+    #[tactic(auto, unfolding(crate::specs::Routine::number_of))]
     pub fn of_number(number: u32) -> Option<RoutineName>
         ensures some { IsSome result ↔ (number < 55) }
         ensures number { IfSome result (λ routine. number_of routine ≡ number) }
     {
         routines!(routine_by(number))
     }
+
+    /// The routine of a name. None exactly where no routine has that name.
+    pub fn named(text: &[u8]) -> Option<RoutineName>
+        ensures value { result ≡ routine_named text.now }
+        ensures spelled { IfSome result (λ routine. name_of routine ≡ text.now) }
+    {
+        RoutineName::ALL
+            .iter()
+            .copied()
+            .find(|routine| routine.name().as_bytes() == text)
+    }
 }
+
+/// Each routine stands at its number in the order, and its name names it alone.
+#[tactic(auto, unfolding(crate::specs::Routine::name_of, crate::specs::Routine::number_of))]
+pub fn routines_differ()
+    ensures numbers { (routine : RoutineName) → slice_get all_routines (number_of routine) ≡ Some routine }
+    ensures names { (routine : RoutineName) → routine_named (name_of routine) ≡ Some routine }
+{}
