@@ -2,3 +2,4 @@ pub mod Width
 pub mod Orders
 pub mod Operation
 pub mod Bytes
+pub mod Routine

@@ -1,5 +1,5 @@
 -- The memory orders: which is at least as strong as which, where each may stand, and their numbers.
-use Rattle.std.specs.Prelude.{ℕ, Bool, true, false, ◌&&◌, ◌==◌, Option, Some, None, if◌then◌else◌, List, [], ◌∷◌, find, unwrap_or, IsTrue}
+use Rattle.std.specs.Prelude.{codes, ℕ, Bool, true, false, ◌&&◌, ◌==◌, Option, Some, None, if◌then◌else◌, List, [], ◌∷◌, find, unwrap_or, IsTrue}
 use Rattle.ax_ops.specs.declared.order.Order.{Order}
 use Rattle.ax_ops.specs.declared.order.Order.TheVariants.{Unordered, Monotonic, Acquire, Release, AcqRel, SeqCst}
 use Rattle.ax_ops.specs.declared.order.Access.{Access}
@@ -52,6 +52,14 @@ is_legal CmpFailure Unordered = false
 is_legal CmpFailure Release = false
 is_legal CmpFailure AcqRel = false
 is_legal _ _ = true
+
+abbrev pub order_word : Order → List ℕ
+order_word Unordered = codes "unordered"
+order_word Monotonic = codes "monotonic"
+order_word Acquire = codes "acquire"
+order_word Release = codes "release"
+order_word AcqRel = codes "acq_rel"
+order_word SeqCst = codes "seq_cst"
 
 -- the number of an order in a call of libatomic (GCC libatomic ABI)
 abbrev pub abi_of : Order → ℕ

@@ -1,7 +1,7 @@
 //! The memory orders of LLVM's atomic instructions and their numbers in library calls.
 
 ghost use Rattle.std.specs.Prelude.{◌≡◌, ◌≢◌, ◌≤◌, ◌↔◌, IsSome, IfSome, Some};
-ghost use Rattle.ax_ops.specs.Orders.{IsJoin, merged_order, is_legal, abi_of, order_of_abi};
+ghost use Rattle.ax_ops.specs.Orders.{IsJoin, merged_order, is_legal, abi_of, order_of_abi, order_word};
 
 /// A memory order (LLVM Language Reference, "Atomic Memory Ordering Constraints").
 #[derive(Clone, Copy, Debug, PartialEq, Eq)]
@@ -12,6 +12,22 @@ pub enum Order {
     Release,
     AcqRel,
     SeqCst,
+}
+
+impl Order {
+    /// The order's word in LLVM's text.
+    pub fn word(self) -> &'static str
+        ensures { result.now ≡ order_word self }
+    {
+        match self {
+            Order::Unordered => "unordered",
+            Order::Monotonic => "monotonic",
+            Order::Acquire => "acquire",
+            Order::Release => "release",
+            Order::AcqRel => "acq_rel",
+            Order::SeqCst => "seq_cst",
+        }
+    }
 }
 
 /// Where an order stands: in a load, a store, a fence, a read-modify-write, or as one of the two
