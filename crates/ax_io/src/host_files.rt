@@ -29,9 +29,9 @@ impl<R> Model for HostFiles<R> {
     ghost Value = { HostFilesState };
 
     ghost view = { λ h. record {
-        asked = map string_bytes h.asked.items;
-        faults = h.faults;
-        taken = h.taken
+      asked = map string_bytes h.asked.items;
+      faults = h.faults;
+      taken = h.taken;
     } };
 }
 

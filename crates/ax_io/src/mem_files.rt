@@ -24,11 +24,11 @@ impl Model for MemFiles {
     ghost Value = { MemFilesState };
 
     ghost view = { λ m. record {
-        files = contents m.files.items;
-        failing = m.failing.items;
-        asked = map string_bytes m.asked.items;
-        faults = m.faults;
-        taken = m.taken
+      files = contents m.files.items;
+      failing = m.failing.items;
+      asked = map string_bytes m.asked.items;
+      faults = m.faults;
+      taken = m.taken;
     } };
 }
 
@@ -39,11 +39,11 @@ impl MemFiles {
     /// or whose name isn't there, fails.
     pub fn new(alloc: Global, files: Vec<(String, Vec<u8>)>, failing: Vec<u64>) -> MemFiles
         ensures { result ≡ record {
-            files = contents files.items;
-            failing = failing.items;
-            asked = [];
-            faults = 0;
-            taken = 0
+          files = contents files.items;
+          failing = failing.items;
+          asked = [];
+          faults = 0;
+          taken = 0;
         } }
     {
         MemFiles {

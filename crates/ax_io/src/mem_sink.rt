@@ -22,10 +22,10 @@ impl Model for MemSink {
     ghost Value = { MemSinkState };
 
     ghost view = { λ m. record {
-        written = m.bytes.items;
-        failing = m.failing.items;
-        calls = m.calls;
-        faults = m.faults
+      written = m.bytes.items;
+      failing = m.failing.items;
+      calls = m.calls;
+      faults = m.faults;
     } };
 }
 
@@ -70,7 +70,8 @@ impl Sink for MemSink {
             self.bytes.extend_from_slice(bytes)?;
             return Ok(());
         };
-        self.bytes.extend_from_slice(&bytes[..count.min(bytes.len())])?;
+        self.bytes
+            .extend_from_slice(&bytes[..count.min(bytes.len())])?;
         self.faults = self.faults.saturating_add(1);
         Err(SinkFault::Failed)
     }
