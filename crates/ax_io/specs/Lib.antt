@@ -1,0 +1,6 @@
+pub mod Count
+pub mod Files
+pub mod Sink
+pub mod MemFiles
+pub mod MemSink
+pub mod HostFiles
