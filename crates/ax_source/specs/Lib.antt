@@ -1,2 +1,4 @@
 pub mod WellFormed
 pub mod Source
+pub mod MachineState
+pub mod Machine

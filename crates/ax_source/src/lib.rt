@@ -3,6 +3,7 @@
 
 pub mod first;
 pub mod machine;
+mod processor;
 
 pub use ax_ops::{Items, SourceEvent, SourceStatus};
 pub use first::{First, FirstInst, FirstValue};
