@@ -5,11 +5,9 @@ use Rattle.std.proofs.Math.Nat.{mod-mod}
 use Rattle.std.proofs.lemmas.Bool.{false≢true}
 use Rattle.std.proofs.lemmas.Bool.Decides.{nat_tests}
 use Rattle.ax_store.specs.declared.entry.Entry.{Entry}
-use Rattle.ax_store.specs.Buffers.{newest, byte_after}
-use Rattle.ax_store.specs.Places.{put, all_inside}
-use Rattle.ax_store.specs.Storage.{Storage, cut, entry_of, seen, load, stored, drain_one, drained}
+use Rattle.ax_store.specs.Bytes.{all_inside, cut, number_at, put, written}
+use Rattle.ax_store.specs.Storage.{Storage, byte_after, drain_one, drained, entry_of, load, newest, seen, stored}
 use Rattle.ax_store.proofs.Steps.{place_same}
-use Rattle.ax_store.specs.Bytes.{written, number_at}
 use Rattle.ax_store.proofs.Numbers.{number_written}
 
 both_true : (a b : Bool) → (a && b) ≡ true → (a ≡ true) × (b ≡ true)
