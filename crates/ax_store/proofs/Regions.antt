@@ -1,10 +1,12 @@
 -- The regions don't overlap, and what lies in them.
-use Rattle.std.proofs.Common.{◌≡◌, ℕ, zero, suc, ◌+◌, ◌-◌, ◌/◌, ◌%◌, ◌<◌, ◌≤◌, Bool, true, false, List, [], ◌∷◌, refl, sym, ap, ◌∙◌, ⊎_elim, arith}
+use Rattle.std.proofs.Common.{◌≡◌, ℕ, zero, suc, ◌+◌, ◌-◌, ◌/◌, ◌%◌, ◌<◌, ◌≤◌, Bool, true, false, List, [], ◌∷◌, length, refl, sym, ap, ◌∙◌, ⊎_elim, arith}
 use Rattle.std.specs.Prelude.{◌||◌, nat_lt, slice_index_or, All}
 use Rattle.std.proofs.lemmas.Bool.{cases_lt}
 use Rattle.std.proofs.lemmas.Bool.Decides.{nat_tests}
+use Rattle.ax_store.specs.Bytes.{all_inside}
 use Rattle.ax_store.specs.Places.{is_mapped, part_of, place_in}
-use Rattle.ax_store.specs.Regions.{in_lock_table, in_globals, in_frame, in_frames, in_regions, IsFrameSize, IsGlobalsEnd}
+use Rattle.ax_store.proofs.Calls.{inside_all}
+use Rattle.ax_store.specs.Regions.{in_lock_table, in_globals, frame_end, in_frame, in_frames, in_regions, IsFrameSize, IsGlobalsEnd}
 
 -- no byte of the lock table is one of a global
 pub table_not_globals : (end a : ℕ) → in_lock_table a ≡ true → in_globals end a ≡ false
@@ -32,6 +34,10 @@ or_false x y h k = ap (λ t. t || y) h ∙ k
 or_first : (x y : Bool) → y ≡ false → x || y ≡ x
 or_first true y k = refl
 or_first false y k = k
+
+or_true : (x : Bool) → x || true ≡ true
+or_true true = refl
+or_true false = refl
 
 or_last : (x y : Bool) → x ≡ false → x || y ≡ y
 or_last x y h = ap (λ t. t || y) h
@@ -97,3 +103,30 @@ mapped_regions end frames g h = λ d a. at a d
 
     at : (a : ℕ) → is_mapped 16384 (end - 65536) frames a ≡ in_regions end frames a
     at a = ⊎_elim (λ l. below_frames end a frames g.least (frames_low a 0 frames l h) l) (upper a) (cases_lt a 16777216)
+
+-- a frame's byte lies in the frames
+frame_among : (p q a size : ℕ) (sizes : List ℕ) → p < length sizes → slice_index_or sizes p 0 ≡ size → in_frame (q + p) size a ≡ true → in_frames q sizes a ≡ true
+frame_among p q a size [] l e h = absurd (omega arith)
+frame_among zero q a size (n ∷ sizes) l e h =
+    let same : q + 0 ≡ q = omega arith in
+    ap (λ t. t || in_frames (q + 1) sizes a) (ap (λ m. in_frame q m a) e ∙ sym (ap (λ r. in_frame r size a) same) ∙ h)
+frame_among (suc p) q a size (n ∷ sizes) l e h =
+    let same : q + suc p ≡ q + 1 + p = omega arith in
+    ap (λ t. in_frame q n a || t) (frame_among p (q + 1) a size sizes (omega arith) e (sym (ap (λ r. in_frame r size a) same) ∙ h)) ∙ or_true (in_frame q n a)
+
+-- ACCESSES IN THE REGIONS
+pub table_access : (end a n : ℕ) (sizes : List ℕ) → 32768 ≤ a → a + n ≤ 49152 → all_inside (in_regions end sizes) a n ≡ true
+table_access end a n sizes low high = inside_all (in_regions end sizes) a n (λ i l. let t : in_lock_table (a + i) ≡ true = grind (arith, nat_tests) in ap (λ t. t || in_globals end (a + i) || in_frames 0 sizes (a + i)) t)
+
+pub globals_access : (end a n : ℕ) (sizes : List ℕ) → 65536 ≤ a → a + n ≤ end → all_inside (in_regions end sizes) a n ≡ true
+globals_access end a n sizes low high =
+    inside_all (in_regions end sizes) a n (λ i l. let t : in_globals end (a + i) ≡ true = grind (arith, nat_tests) in ap (λ t. in_lock_table (a + i) || t || in_frames 0 sizes (a + i)) t ∙ ap (λ t. t || in_frames 0 sizes (a + i)) (or_true (in_lock_table (a + i))))
+
+pub frame_access : (end a n p size : ℕ) (sizes : List ℕ) → p < length sizes → slice_index_or sizes p 0 ≡ size → frame_end p ≤ a + size → a + n ≤ frame_end p → all_inside (in_regions end sizes) a n ≡ true
+frame_access end a n p size sizes l e low high = inside_all (in_regions end sizes) a n at
+  where
+    at : (i : ℕ) → i < n → in_regions end sizes (a + i) ≡ true
+    at i k =
+        let same : 0 + p ≡ p = omega arith in
+        let t : in_frame p size (a + i) ≡ true = grind (arith, nat_tests) in
+        ap (λ t. in_lock_table (a + i) || in_globals end (a + i) || t) (frame_among p 0 (a + i) size sizes l e (ap (λ r. in_frame r size (a + i)) same ∙ t)) ∙ or_true (in_lock_table (a + i) || in_globals end (a + i))

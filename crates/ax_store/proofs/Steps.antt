@@ -30,6 +30,9 @@ module _ {A : Type 0} (f : ℕ → A) (k : ℕ) where
   pub place_same : (v : A) → at_place f k v k ≡ v
   place_same v = grind (arith, nat_tests)
 
+  pub place_other : (v : A) (q : ℕ) → ¬ (q ≡ k) → at_place f k v q ≡ f q
+  place_other v q h = grind (arith, nat_tests)
+
   pub place_kept : (v : A) → f k ≡ v → at_place f k v ≡ f
   place_kept v e = λ d q. at q d
     where
