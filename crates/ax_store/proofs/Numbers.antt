@@ -1,11 +1,10 @@
 -- What is read after a write.
-use Rattle.std.proofs.Common.{◌≡◌, ℕ, zero, suc, ◌+◌, ◌-◌, ◌*◌, ◌/◌, ◌%◌, ◌^◌, ◌<◌, ◌≤◌, true, false, List, length, refl, sym, ap, ◌∙◌, subst, arith}
-use Rattle.std.specs.Prelude.{◌&&◌, nat_le, nat_lt, if◌then◌else◌, slice_index, slice_set}
+use Rattle.std.proofs.Common.{◌≡◌, ℕ, zero, suc, ◌+◌, ◌-◌, ◌*◌, ◌/◌, ◌%◌, ◌^◌, ◌<◌, ◌≤◌, true, false, refl, sym, ap, ◌∙◌, subst, arith}
+use Rattle.std.specs.Prelude.{◌&&◌, nat_le, nat_lt, if◌then◌else◌}
 use Rattle.std.proofs.lemmas.Bool.Decides.{nat_tests}
 use Rattle.std.proofs.lemmas.Nat.{mod-pow-add, pow-add}
 use Rattle.std.proofs.Math.Nat.{div-div-eq-div-mul, pow-le-pow_right}
-use Rattle.std.proofs.lemmas.Grind.{common_steps}
-use Rattle.ax_store.specs.Bytes.{number_at, byte_of, written, set_at, memory_of}
+use Rattle.ax_store.specs.Bytes.{number_at, byte_of, written}
 
 pub written_inside : (f : ℕ → ℕ) (a n v i : ℕ) → i < n → written f a n v (a + i) ≡ byte_of v i
 written_inside f a n v i h =
@@ -38,7 +37,7 @@ div_one : (x : ℕ) → x / 1 ≡ x
 div_one x = omega arith
 
 -- the bytes of a number, from byte k on, spell what is left of it
-spelled : (f : ℕ → ℕ) (a v k n : ℕ) → ((i : ℕ) → i < n → f (a + i) ≡ byte_of v (k + i)) → number_at f a n ≡ v / 2 ^ (8 * k) % 2 ^ (8 * n)
+pub spelled : (f : ℕ → ℕ) (a v k n : ℕ) → ((i : ℕ) → i < n → f (a + i) ≡ byte_of v (k + i)) → number_at f a n ≡ v / 2 ^ (8 * k) % 2 ^ (8 * n)
 spelled f a v k zero h = sym (mod_one (v / 2 ^ (8 * k)))
 spelled f a v k (suc n) h =
     let x = v / 2 ^ (8 * k) in
@@ -57,13 +56,6 @@ pub number_written : (f : ℕ → ℕ) (a n v : ℕ) → number_at (written f a 
 number_written f a n v =
     let e : v / 2 ^ (8 * 0) ≡ v = div_one v in
     spelled (written f a n v) a v 0 n (λ i lt. written_inside f a n v i lt ∙ ap (byte_of v) (let g : i ≡ 0 + i = omega arith in g)) ∙ ap (λ x. x % 2 ^ (8 * n)) e
-
--- a list as a memory, after one of its bytes is set
-pub memory_set : (bytes : List ℕ) (i v : ℕ) → i < length bytes → memory_of (slice_set bytes i v) ≡ set_at (memory_of bytes) i v
-memory_set bytes i v h = λ d a. at a d
-  where
-    at : (a : ℕ) → slice_index (slice_set bytes i v) a ≡ set_at (memory_of bytes) i v a
-    at a = grind (arith, common_steps, nat_tests)
 
 -- the number from byte i on, by the byte there and the number above it
 pub number_more : (f : ℕ → ℕ) (a n i : ℕ) → i < n → number_at f (a + i) (n - i) ≡ f (a + i) + 2 ^ 8 * number_at f (a + (i + 1)) (n - (i + 1))

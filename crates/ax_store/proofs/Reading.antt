@@ -1,6 +1,10 @@
 -- Loops that read a number from its highest byte down.
-use Rattle.std.proofs.Common.{◌≡◌, ◌+◌, ◌-◌, ◌*◌, ◌<◌, ◌≤◌, ◌^◌, ℕ, sym, ap, ◌∙◌, subst, arith}
-use Rattle.ax_store.specs.Bytes.{number_at}
+use Rattle.std.proofs.Common.{◌≡◌, Option, ◌+◌, ◌-◌, ◌*◌, ◌<◌, ◌≤◌, ◌^◌, ℕ, sym, ap, ◌∙◌, subst, arith}
+use Rattle.ax_store.specs.Bytes.{IsWidth, number_at}
+use Rattle.ax_store.specs.Buffers.{latest}
+use Rattle.ax_store.specs.Storage.{Storage, seen}
+use Rattle.ax_store.specs.Store.{byte_over}
+use Rattle.ax_store.proofs.BufferLemmas.{newest_latest}
 use Rattle.ax_store.proofs.Numbers.{number_more, number_room, bytes_fit}
 
 -- the bytes from i on are read
@@ -27,3 +31,10 @@ fit i n v b h pos within small byte =
     let k : i ≡ i - 1 + 1 = omega arith in
     let s : v < 2 ^ (8 * (n - (i - 1 + 1))) = subst (λ j. v < 2 ^ (8 * (n - j))) k small in
     bytes_fit n (n - (i - 1)) (v * 256 + b) h (omega arith) (number_room n (i - 1) v b (omega arith) s byte)
+
+pub width_le : (n : ℕ) → IsWidth n → n ≤ 16
+width_le n h = grind arith
+
+-- a byte by what its processor's buffer has for it
+pub seen_byte : (p b v : ℕ) (own : Option ℕ) (st : Storage) → own ≡ latest (st.waiting p) b → v ≡ byte_over st own b → v ≡ seen p st b
+seen_byte p b v own st found is = is ∙ ap (λ o. byte_over st o b) found ∙ sym (newest_latest (st.inside b) (st.waiting p) b (st.mem b))

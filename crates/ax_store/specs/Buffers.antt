@@ -1,6 +1,7 @@
 -- The steps of one buffer.
 pub use Rattle.ax_store.specs.BufferState.{BufferState}
-use Rattle.std.specs.Prelude.{ℕ, ◌-◌, List, [], ◌∷◌, ◌++◌, Bool, ◌&&◌, Option, if◌then◌else◌, nat_lt, drop, slice_get}
+use Rattle.std.specs.Prelude.{ℕ, ◌-◌, List, [], ◌∷◌, ◌++◌, Option, Some, None, if◌then◌else◌, nat_lt, slice_index_or, drop}
+use Rattle.std.specs.Option.{option_or}
 use Rattle.ax_store.specs.declared.entry.Entry.{Entry}
 use Rattle.ax_store.specs.Bytes.{covers, byte_of}
 
@@ -13,17 +14,18 @@ pushed e b = record { entries = b.entries ++ e ∷ []; room = b.room - 1 }
 abbrev pub popped : BufferState → BufferState
 popped b = record b { entries = drop 1 b.entries }
 
-abbrev pub first_of : List Entry → Option Entry
-first_of es = slice_get es 0
-
 abbrev pub none : BufferState
 none = record { entries = []; room = 0 }
 
--- byte b after an entry reached it, if b is inside
-abbrev pub byte_after : Bool → Entry → ℕ → ℕ → ℕ
-byte_after inside e b v = if covers e.address e.bytes b && inside then byte_of e.value (b - e.address) else v
+-- the buffer of a processor, none past the last
+abbrev pub buffer_of : List BufferState → ℕ → BufferState
+buffer_of bs p = slice_index_or bs p none
 
--- byte b as the owner of these entries sees it, the oldest first, over what memory has
-abbrev pub newest : Bool → List Entry → ℕ → ℕ → ℕ
-newest inside [] b v = v
-newest inside (e ∷ es) b v = newest inside es b (byte_after inside e b v)
+-- what an entry has for byte b
+abbrev pub byte_from : Entry → ℕ → Option ℕ
+byte_from e b = if covers e.address e.bytes b then Some (byte_of e.value (b - e.address)) else None
+
+-- what the newest entry that reaches byte b has for it
+abbrev pub latest : List Entry → ℕ → Option ℕ
+latest [] b = None
+latest (e ∷ es) b = option_or (latest es b) (byte_from e b)

@@ -1,7 +1,10 @@
-pub mod Bytes
 pub mod BufferState
 pub mod Buffers
+pub mod Bytes
 pub mod Links
 pub mod Places
+pub mod Regions
+pub mod Reservations
 pub mod Storage
+pub mod Store
 pub mod StoreState

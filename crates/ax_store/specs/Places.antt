@@ -1,6 +1,5 @@
--- Which byte of which region stands for an address.
-use Rattle.std.specs.Prelude.{ℕ, zero, suc, ◌+◌, ◌-◌, ◌/◌, ◌%◌, Bool, true, nat_lt, nat_eq, ◌&&◌, if◌then◌else◌, List, [], ◌∷◌, length, slice_index_or, slice_set, replicate, map}
-use Rattle.ax_store.specs.Bytes.{byte_of, covers}
+-- Which byte of which list stands for an address.
+use Rattle.std.specs.Prelude.{ℕ, ◌+◌, ◌-◌, ◌/◌, ◌%◌, Bool, nat_lt, if◌then◌else◌, List, [], ◌∷◌, length, slice_index_or, slice_set, replicate, map}
 
 -- the lock table ends below 2 ^ 16 and the globals below 2 ^ 24; a frame has 2 ^ 17 addresses
 abbrev pub part_of : ℕ → ℕ
@@ -21,19 +20,6 @@ is_inside rs a = nat_lt (place_in a) (length (bytes_in rs a))
 
 abbrev pub bytes_set : List (List ℕ) → ℕ → ℕ → List (List ℕ)
 bytes_set rs a v = slice_set rs (part_of a) (slice_set (bytes_in rs a) (place_in a) v)
-
--- f, but v at a where that is inside
-abbrev pub set_inside : (ℕ → Bool) → (ℕ → ℕ) → ℕ → ℕ → ℕ → ℕ
-set_inside inside f a v b = if nat_eq b a && inside b then v else f b
-
--- f, but the number v in those of the n bytes from a on that are inside
-abbrev pub put : (ℕ → Bool) → ℕ → ℕ → ℕ → (ℕ → ℕ) → ℕ → ℕ
-put inside a n v f b = if covers a n b && inside b then byte_of v (b - a) else f b
-
--- are all n bytes from a on inside
-abbrev pub all_inside : (ℕ → Bool) → ℕ → ℕ → Bool
-all_inside inside a zero = true
-all_inside inside a (suc n) = inside a && all_inside inside (a + 1) n
 
 abbrev pub zeros : ℕ → List ℕ
 zeros n = replicate n 0

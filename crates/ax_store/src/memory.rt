@@ -1,7 +1,8 @@
 // Memory: a list of regions.
-ghost use Rattle.std.specs.Prelude.{◌≡◌, ◌↔◌, ◌+◌, ◌-◌, ◌*◌, ◌<◌, ◌≤◌, ◌^◌, ℕ, List, [], IsTrue, length, slice_index, slice_index_or, slice_set, IfOk, replicate, map};
-ghost use Rattle.ax_store.specs.Places.{part_of, place_in, bytes_set, byte_at, is_inside, set_inside, put, all_inside, regions_of, is_mapped};
-ghost use Rattle.ax_store.specs.Bytes.{number_at, written, byte_of};
+ghost use Rattle.std.specs.Prelude.{◌≡◌, ◌↔◌, ◌+◌, ◌-◌, ◌*◌, ◌<◌, ◌≤◌, ◌^◌, ℕ, List, [], IsTrue, length, slice_index, slice_index_or, slice_set, IfOk, All, replicate, map};
+ghost use Rattle.ax_store.specs.Bytes.{all_inside, byte_of, number_at, put, set_inside};
+ghost use Rattle.ax_store.specs.Places.{byte_at, bytes_set, is_inside, part_of, place_in, regions_of};
+ghost use Rattle.ax_store.specs.Regions.{IsFrameSize, IsGlobalsEnd, in_regions};
 
 use std::alloc::{AllocError, Global};
 use std::marker::Model;
@@ -114,17 +115,14 @@ impl Memory {
         Ok(Memory { regions })
     }
 
-    /// All bytes are 0.
-    pub fn new(
-        alloc: Global,
-        table: u64,
-        globals: u64,
-        frames: &[u64],
-    ) -> Result<Memory, AllocError>
+    /// All bytes are 0. The globals end at the address `end`.
+    pub fn new(alloc: Global, end: u64, frames: &[u64]) -> Result<Memory, AllocError>
+        requires end { IsGlobalsEnd end }
+        requires sizes { All IsFrameSize frames.now }
         ensures bytes { IfOk result (λ m. byte_at m ≡ (λ a. 0)) }
-        ensures inside { IfOk result (λ m. is_inside m ≡ is_mapped table globals frames.now) }
+        ensures inside { IfOk result (λ m. is_inside m ≡ in_regions end frames.now) }
     {
-        Memory::of_zeros(alloc, table, globals, frames)
+        Memory::of_zeros(alloc, 0x4000, end - 0x10000, frames)
     }
 
     pub fn byte(&self, a: u128) -> u8

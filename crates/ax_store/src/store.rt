@@ -1,11 +1,12 @@
-// The storage of a machine.
-ghost use Rattle.std.specs.Prelude.{drop, ◌↔◌, ◌≡◌, ◌≢◌, ◌+◌, ◌-◌, ◌*◌, ◌%◌, ◌^◌, ◌<◌, ◌≤◌, ℕ, List, [], ◌∷◌, Bool, true, false, IsTrue, OnOk, OnErr, Option, Some, None, length, if◌then◌else◌, nat_lt, IfOk, replicate};
+// The storage of the machines.
+ghost use Rattle.std.specs.Prelude.{drop, ◌↔◌, ◌≡◌, ◌≢◌, ◌+◌, ◌*◌, ◌^◌, ◌<◌, ◌≤◌, ℕ, List, [], Bool, true, false, IsTrue, OnOk, OnErr, Option, Some, None, All, length, if◌then◌else◌, IfOk, replicate, slice_index_or};
 ghost use Rattle.ax_store.specs.declared.entry.Entry.{Entry};
 ghost use Rattle.ax_store.specs.declared.entry.Reservation.{Reservation};
-ghost use Rattle.ax_store.specs.Storage.{StoreState, storage_of, started, most, Kept, HasRoom, entered, with_waiting, buffer_of, at_place, byte_put, cut, seen, load, with_spare, wrote, stored, drained, oldest, flushed, replaced, linked_at, with_linked, may_pair, pair_stored};
-ghost use Rattle.ax_store.specs.Places.{all_inside};
-ghost use Rattle.ax_store.specs.Buffers.{none};
-ghost use Rattle.ax_store.specs.Bytes.{number_at, IsWidth};
+ghost use Rattle.ax_store.specs.Buffers.{latest, none};
+ghost use Rattle.ax_store.specs.Bytes.{IsWidth, all_inside, cut, number_at};
+ghost use Rattle.ax_store.specs.Regions.{IsFrameSize, IsGlobalsEnd, IsProcessorCount};
+ghost use Rattle.ax_store.specs.Storage.{byte_put, drained, dropped, entered, flushed, linked_at, load, may_pair, oldest, pair_stored, replaced, started, stored, with_linked, with_waiting, wrote};
+ghost use Rattle.ax_store.specs.Store.{HasRoom, byte_over, Kept, StoreState, processors, reserved, spare_of, spared, storage_of};
 
 use crate::buffer::Buffer;
 use crate::entry::{Entry, Reservation};
@@ -14,7 +15,9 @@ use crate::memory::Memory;
 use std::alloc::{AllocError, Global};
 use std::marker::Model;
 
-/// Memory, and for each processor the stores that wait and a reservation.
+/// Memory, and for each processor the stores that wait in its buffer and a reservation. Contracts see it as the
+/// definition *Storage*, and beside that the room in each buffer. A size n is 1, 2, 4, 8 or 16 bytes, and numbers are
+/// little-endian.
 #[derive(Drop)]
 pub struct Store {
     memory: Memory,
@@ -24,14 +27,15 @@ pub struct Store {
 }
 
 impl Model for Store {
-    ghost use Rattle.std.specs.Prelude.{drop, ◌↔◌, ◌≡◌, length};
+    ghost use Rattle.std.specs.Prelude.{◌≡◌, ℕ, [], false, length};
     ghost use Rattle.ax_store.specs.StoreState.{StoreState};
+    ghost use Rattle.ax_store.specs.Buffers.{buffer_of};
 
     ghost Value = { StoreState };
 
     ghost view = { λ s. record { memory = s.memory; buffers = s.buffers.items; links = s.links; buffered = s.buffered } };
 
-    ghost invariant = { λ s. length s.links ≡ length s.buffers.items };
+    ghost invariant = { λ s. (length s.links ≡ length s.buffers.items) × (s.buffered ≡ false → (p : ℕ) → length (buffer_of s.buffers.items p).entries ≡ 0) };
 }
 
 fn empty_buffers(alloc: Global, n: usize) -> Result<Vec<Buffer>, AllocError>
@@ -45,18 +49,25 @@ fn empty_buffers(alloc: Global, n: usize) -> Result<Vec<Buffer>, AllocError>
 }
 
 impl Store {
-    /// All bytes are 0. The region of the globals ends at `globals`; there is a frame size for each processor.
+    /// A storage whose bytes are all 0, without stores that wait and without reservations. The region of the globals ends
+    /// at the address `globals`; there is one frame size, in bytes, for each processor. A machine is `buffered` where its
+    /// stores wait in buffers.
+    #[tactic(auto, unfolding(crate::specs::Store::storage_of, crate::specs::Store::spare_of, crate::specs::Store::processors))]
     pub fn new(
         alloc: Global,
         globals: u64,
         frames: &[u64],
         buffered: bool,
     ) -> Result<Store, AllocError>
-        requires { 65536 ≤ globals }
-        ensures storage { IfOk result (λ s. storage_of s ≡ started 16384 (globals - 65536) frames.now) }
-        ensures kind { IfOk result (λ s. (s.buffered ≡ buffered) × (length s.buffers ≡ length frames.now)) }
+        requires end { IsGlobalsEnd globals }
+        requires sizes { All IsFrameSize frames.now }
+        requires count { IsProcessorCount (length frames.now) }
+        ensures storage { IfOk result (λ s. storage_of s ≡ started globals frames.now) }
+        ensures spares { IfOk result (λ s. spare_of s ≡ (λ p. 0)) }
+        ensures kind { IfOk result (λ s. s.buffered ≡ buffered) }
+        ensures processors { IfOk result (λ s. processors s ≡ length frames.now) }
     {
-        let memory = Memory::new(alloc, 0x4000, globals - 0x10000, frames)?;
+        let memory = Memory::new(alloc, globals, frames)?;
         let buffers = empty_buffers(alloc, frames.len())?;
         let links = Links::new(alloc, frames.len())?;
         Ok(Store {
@@ -67,95 +78,169 @@ impl Store {
         })
     }
 
+    /// The byte of memory at an address, 0 outside the regions.
+    #[tactic(auto, unfolding(crate::specs::Store::storage_of))]
     pub fn byte(&self, a: u64) -> u8
         ensures { result ≡ (storage_of self.now).mem a }
     {
         self.memory.byte(a as u128)
     }
 
+    /// Writes an initial byte. An address outside the regions takes no write.
+    #[tactic(auto, unfolding(crate::specs::Store::storage_of, crate::specs::Store::spare_of, crate::specs::Store::processors))]
     pub fn set(&mut self, a: u64, b: u8)
-        ensures { storage_of self.new ≡ byte_put a b (storage_of self.old) }
+        ensures storage { storage_of self.new ≡ byte_put a b (storage_of self.old) }
+        ensures spares { spare_of self.new ≡ spare_of self.old }
+        ensures kept { Kept self.old self.new }
     {
         self.memory.set(a as u128, b);
     }
 
+    /// Do all n bytes from a on lie in the regions?
+    #[tactic(auto, unfolding(crate::specs::Store::storage_of))]
     pub fn inside(&self, a: u64, n: u8) -> bool
-        requires { n ≤ 16 }
+        requires { IsWidth n }
         ensures { result ≡ all_inside (storage_of self.now).inside a n }
     {
         self.memory.all_inside(a, n)
     }
 
+    /// Makes room for at least n stores of p. On an error nothing has changed.
+    #[tactic(auto, unfolding(crate::specs::Store::storage_of, crate::specs::Store::spare_of, crate::specs::Store::processors))]
+    pub fn reserve(&mut self, p: u8, n: u64) -> Result<(), AllocError>
+        requires { p < processors self.old }
+        ensures storage { storage_of self.new ≡ storage_of self.old }
+        ensures spares { OnOk result (spare_of self.new ≡ reserved p n (spare_of self.old)) }
+        ensures err { OnErr result (self.new ≡ self.old) }
+        ensures kept { Kept self.old self.new }
+    {
+        let b = &mut self.buffers[p as usize];
+        b.reserve(n)
+    }
+
+    /// For how many more stores of p there is room.
+    #[tactic(auto, unfolding(crate::specs::Store::spare_of, crate::specs::Store::processors))]
     pub fn spare(&self, p: u8) -> u64
-        requires { p < length self.now.buffers }
-        ensures { result ≡ (storage_of self.now).spare p }
+        requires { p < processors self.now }
+        ensures { result ≡ spare_of self.now p }
     {
         self.buffers[p as usize].room()
     }
 
+    /// How many stores of p wait.
+    #[tactic(auto, unfolding(crate::specs::Store::storage_of, crate::specs::Store::processors))]
     pub fn pending(&self, p: u8) -> usize
-        requires { p < length self.now.buffers }
+        requires { p < processors self.now }
         ensures { result ≡ length ((storage_of self.now).waiting p) }
     {
         self.buffers[p as usize].len()
     }
 
-    fn seen_byte(&self, p: u8, b: u128) -> u8
-        requires within { p < length self.now.buffers }
-        requires small { b < 2 ^ 65 }
-        ensures { result ≡ seen p (storage_of self.now) b }
+    /// Has p a reservation?
+    #[tactic(auto, unfolding(crate::specs::Store::storage_of, crate::specs::Store::processors))]
+    pub fn linked(&self, p: u8) -> bool
+        requires { p < processors self.now }
+        ensures { IsTrue result ↔ ((storage_of self.now).linked p ≢ None) }
     {
-        self.buffers[p as usize].seen(b, self.memory.inside(b), self.memory.byte(b))
+        self.links.get(p as usize).is_some()
+    }
+}
+
+impl Store {
+    #[tactic(auto, unfolding(crate::specs::Store::storage_of, crate::specs::Store::processors))]
+    fn latest(&self, p: u8, a: u64, n: u8) -> [Option<u8>; 16]
+        requires within { p < processors self.now }
+        requires width { n ≤ 16 }
+        ensures found { (i : ℕ) → i < n → slice_index_or result i None ≡ latest ((storage_of self.now).waiting p) (a + i) }
+        ensures unbuffered { self.now.buffered ≡ false → length ((storage_of self.now).waiting p) ≡ 0 }
+    {
+        self.buffers[p as usize].latest(a, n)
     }
 
-    /// The number in n bytes, as p sees them.
-    pub fn load(&self, p: u8, a: u64, n: u8) -> u128
-        requires within { p < length self.now.buffers }
-        requires width { n ≤ 16 }
-        ensures { result ≡ load p a n (storage_of self.now) }
+    /// The byte at b, where `own` is what the buffer has for it.
+    #[tactic(auto, unfolding(crate::specs::Store::storage_of))]
+    fn byte_seen(&self, own: Option<u8>, b: u128) -> u8
+        requires { b < 2 ^ 65 }
+        ensures { result ≡ byte_over (storage_of self.now) own b }
     {
+        match own {
+            Some(byte) if self.memory.inside(b) => byte,
+            _ => self.memory.byte(b),
+        }
+    }
+
+    /// The number in the n bytes from a on as p sees them: byte by byte p's newest store that waits, else memory.
+    pub fn load(&self, p: u8, a: u64, n: u8) -> u128
+        requires within { p < processors self.now }
+        requires width { IsWidth n }
+        ensures number { result ≡ load p a n (storage_of self.now) }
+        ensures unbuffered { self.now.buffered ≡ false → result ≡ number_at (storage_of self.now).mem a n }
+        ensures fits { result < 2 ^ (8 * n) }
+    {
+        let own = self.latest(p, a, n);
         let mut value: u128 = 0;
         let mut i = n;
         while i > 0 {
             i -= 1;
-            value = value * 256 + self.seen_byte(p, a as u128 + i as u128) as u128;
+            value = value * 256 + self.byte_seen(own[i as usize], a as u128 + i as u128) as u128;
         }
         value
     }
 
+    /// The number in memory.
+    #[tactic(auto, unfolding(crate::specs::Store::storage_of))]
+    fn read(&self, a: u64, n: u8) -> u128
+        requires { IsWidth n }
+        ensures number { result ≡ number_at (storage_of self.now).mem a n }
+        ensures fits { result < 2 ^ (8 * n) }
+    {
+        self.memory.read(a, n)
+    }
+
+    /// A write by p reaches memory.
+    #[tactic(auto, unfolding(crate::specs::Store::storage_of, crate::specs::Store::spare_of, crate::specs::Store::processors))]
     fn write_entry(&mut self, p: u8, e: Entry)
         ensures storage { storage_of self.new ≡ wrote p e (storage_of self.old) }
+        ensures spares { spare_of self.new ≡ spare_of self.old }
         ensures kept { Kept self.old self.new }
     {
         self.memory.write(e.address, e.bytes, e.value);
         self.links.end_others(p as usize, e.address, e.bytes);
     }
 
+    #[tactic(auto, unfolding(crate::specs::Store::storage_of, crate::specs::Store::spare_of, crate::specs::Store::processors))]
     fn enter(&mut self, p: u8, e: Entry)
-        requires within { p < length self.old.buffers }
-        requires room { 0 < (storage_of self.old).spare p }
+        requires within { p < processors self.old }
+        requires kind { self.old.buffered ≡ true }
+        requires room { 0 < spare_of self.old p }
         ensures storage { storage_of self.new ≡ entered p e (storage_of self.old) }
+        ensures spares { spare_of self.new ≡ spared true p (spare_of self.old) }
         ensures kept { Kept self.old self.new }
     {
         let b = &mut self.buffers[p as usize];
         b.push(e);
     }
 
+    #[tactic(auto, unfolding(crate::specs::Store::storage_of, crate::specs::Store::spare_of, crate::specs::Store::processors))]
     fn pop(&mut self, p: u8) -> Option<Entry>
-        requires { p < length self.old.buffers }
+        requires { p < processors self.old }
         ensures value { result ≡ oldest p (storage_of self.old) }
         ensures storage { storage_of self.new ≡ with_waiting p (drop 1 ((storage_of self.old).waiting p)) (storage_of self.old) }
+        ensures spares { spare_of self.new ≡ spare_of self.old }
         ensures kept { Kept self.old self.new }
     {
         let b = &mut self.buffers[p as usize];
         b.pop()
     }
 
+    /// A store by p of the low n bytes of v. On a buffered machine it waits, and takes one of the places that `reserve`
+    /// made; else it reaches memory.
     pub fn store(&mut self, p: u8, a: u64, n: u8, v: u128)
-        requires within { p < length self.old.buffers }
+        requires within { p < processors self.old }
         requires width { IsWidth n }
         requires room { HasRoom self.old p }
         ensures storage { storage_of self.new ≡ stored self.old.buffered p a n v (storage_of self.old) }
+        ensures spares { spare_of self.new ≡ spared self.old.buffered p (spare_of self.old) }
         ensures kept { Kept self.old self.new }
     {
         let e = Entry {
@@ -170,28 +255,26 @@ impl Store {
         }
     }
 
-    /// The oldest store of p that waits reaches memory.
+    /// p's oldest store that waits reaches memory, and is given. None exactly where none waits.
     pub fn drain(&mut self, p: u8) -> Option<Entry>
-        requires { p < length self.old.buffers }
+        requires { p < processors self.old }
         ensures value { result ≡ oldest p (storage_of self.old) }
         ensures storage { storage_of self.new ≡ drained p (storage_of self.old) }
+        ensures spares { spare_of self.new ≡ spare_of self.old }
         ensures kept { Kept self.old self.new }
     {
-        match self.pop(p) {
-            Some(e) => {
-                self.write_entry(p, e);
-                Some(e)
-            }
-            None => None,
+        let oldest = self.pop(p);
+        if let Some(e) = oldest {
+            self.write_entry(p, e);
         }
+        oldest
     }
-}
 
-impl Store {
-    /// All stores of p that wait reach memory.
+    /// All of p's stores that wait reach memory, in order.
     pub fn fence(&mut self, p: u8)
-        requires { p < length self.old.buffers }
+        requires { p < processors self.old }
         ensures storage { storage_of self.new ≡ flushed p (storage_of self.old) }
+        ensures spares { spare_of self.new ≡ spare_of self.old }
         ensures kept { Kept self.old self.new }
     {
         for _i in 0..self.pending(p) {
@@ -199,19 +282,22 @@ impl Store {
         }
     }
 
-    /// A locked operation: its f gives the new number, or none.
+    /// A locked operation: drains p's buffer, reads the old number, writes the low n bytes of what `f` answers for it, or
+    /// nothing for None, and gives the old number.
     pub fn locked<F: Fn(u128) -> Option<u128>>(&mut self, p: u8, a: u64, n: u8, f: F) -> u128
     where
         F: Drop,
-        requires within { p < length self.old.buffers }
+        requires within { p < processors self.old }
         requires width { IsWidth n }
         requires accepts { (x : ℕ) → x < 2 ^ (8 * n) → F.pre f x }
         ensures old { result ≡ number_at (flushed p (storage_of self.old)).mem a n }
+        ensures fits { result < 2 ^ (8 * n) }
         ensures written { (r : Option ℕ) × F.post f (number_at (flushed p (storage_of self.old)).mem a n) r × (storage_of self.new ≡ replaced p a n r (flushed p (storage_of self.old))) }
+        ensures spares { spare_of self.new ≡ spare_of self.old }
         ensures kept { Kept self.old self.new }
     {
         self.fence(p);
-        let old = self.memory.read(a, n);
+        let old = self.read(a, n);
         let new = f(old);
         self.replace(p, a, n, new);
         old
@@ -220,110 +306,112 @@ impl Store {
     fn replace(&mut self, p: u8, a: u64, n: u8, new: Option<u128>)
         requires { IsWidth n }
         ensures storage { storage_of self.new ≡ replaced p a n new (storage_of self.old) }
+        ensures spares { spare_of self.new ≡ spare_of self.old }
         ensures kept { Kept self.old self.new }
     {
         if let Some(v) = new {
-            self.write_entry(
-                p,
-                Entry {
-                    address: a,
-                    bytes: n,
-                    value: low(n, v),
-                },
-            );
+            let e = Entry {
+                address: a,
+                bytes: n,
+                value: low(n, v),
+            };
+            self.write_entry(p, e);
         }
     }
 
+    #[tactic(auto, unfolding(crate::specs::Store::storage_of, crate::specs::Store::spare_of, crate::specs::Store::processors))]
     fn set_link(&mut self, p: u8, link: Option<Reservation>)
-        requires { p < length self.old.buffers }
+        requires { p < processors self.old }
         ensures storage { storage_of self.new ≡ with_linked p link (storage_of self.old) }
+        ensures spares { spare_of self.new ≡ spare_of self.old }
         ensures kept { Kept self.old self.new }
     {
         self.links.set(p as usize, link);
     }
 
-    pub fn linked(&self, p: u8) -> bool
-        requires { p < length self.now.buffers }
-        ensures { IsTrue result ↔ ((storage_of self.now).linked p ≢ None) }
-    {
-        self.links.get(p as usize).is_some()
-    }
-
-    /// A linked load.
+    /// A linked load of n bytes: gives the number in memory, and begins p's reservation, which ends its older one.
     pub fn link(&mut self, p: u8, a: u64, n: u8) -> u128
-        requires within { p < length self.old.buffers }
-        requires width { n ≤ 16 }
-        ensures value { result ≡ number_at (storage_of self.old).mem a n }
+        requires within { p < processors self.old }
+        requires width { IsWidth n }
+        requires unbuffered { self.old.buffered ≡ false }
+        ensures number { result ≡ number_at (storage_of self.old).mem a n }
+        ensures fits { result < 2 ^ (8 * n) }
         ensures storage { storage_of self.new ≡ linked_at p a n (storage_of self.old) }
+        ensures spares { spare_of self.new ≡ spare_of self.old }
         ensures kept { Kept self.old self.new }
     {
-        self.set_link(
-            p,
-            Some(Reservation {
-                address: a,
-                bytes: n,
-            }),
-        );
-        self.memory.read(a, n)
-    }
-
-    /// The low half of a linked load of 16 bytes.
-    pub fn link_half(&mut self, p: u8, a: u64) -> u64
-        requires { p < length self.old.buffers }
-        ensures value { result ≡ number_at (storage_of self.old).mem a 8 }
-        ensures storage { storage_of self.new ≡ linked_at p a 16 (storage_of self.old) }
-        ensures kept { Kept self.old self.new }
-    {
-        let value = self.memory.read(a, 8) as u64;
-        self.set_link(
-            p,
-            Some(Reservation {
-                address: a,
-                bytes: 16,
-            }),
-        );
+        let value = self.read(a, n);
+        self.begin(p, a, n);
         value
     }
 
-    pub fn pair_store(&mut self, p: u8, a: u64, n: u8, v: u128) -> bool
-        requires within { p < length self.old.buffers }
-        requires width { IsWidth n }
-        ensures value { result ≡ may_pair p a n (storage_of self.old) }
-        ensures storage { storage_of self.new ≡ pair_stored p a n v (storage_of self.old) }
+    /// The low 8 bytes of a linked load of 16 bytes, whose reservation it begins.
+    pub fn link_half(&mut self, p: u8, a: u64) -> u64
+        requires within { p < processors self.old }
+        requires unbuffered { self.old.buffered ≡ false }
+        ensures number { result ≡ number_at (storage_of self.old).mem a 8 }
+        ensures storage { storage_of self.new ≡ linked_at p a 16 (storage_of self.old) }
+        ensures spares { spare_of self.new ≡ spare_of self.old }
         ensures kept { Kept self.old self.new }
     {
-        let stands = fits(self.links.get(p as usize), a, n);
+        let value = self.read(a, 8) as u64;
+        self.begin(p, a, 16);
+        value
+    }
+
+    fn begin(&mut self, p: u8, a: u64, n: u8)
+        requires { p < processors self.old }
+        ensures storage { storage_of self.new ≡ linked_at p a n (storage_of self.old) }
+        ensures spares { spare_of self.new ≡ spare_of self.old }
+        ensures kept { Kept self.old self.new }
+    {
+        let link = Reservation {
+            address: a,
+            bytes: n,
+        };
+        self.set_link(p, Some(link));
+    }
+
+    #[tactic(auto, unfolding(crate::specs::Store::storage_of, crate::specs::Store::processors))]
+    fn may_pair(&self, p: u8, a: u64, n: u8) -> bool
+        requires { p < processors self.now }
+        ensures { result ≡ may_pair p a n (storage_of self.now) }
+    {
+        fits(self.links.get(p as usize), a, n)
+    }
+
+    /// A pair store of the low n bytes of v. False, with nothing written, exactly where p has no reservation that a linked
+    /// load of the same address and size began. p's reservation ends in either case.
+    pub fn pair_store(&mut self, p: u8, a: u64, n: u8, v: u128) -> bool
+        requires within { p < processors self.old }
+        requires width { IsWidth n }
+        requires unbuffered { self.old.buffered ≡ false }
+        ensures stood { result ≡ may_pair p a n (storage_of self.old) }
+        ensures storage { storage_of self.new ≡ pair_stored p a n v (storage_of self.old) }
+        ensures spares { spare_of self.new ≡ spare_of self.old }
+        ensures kept { Kept self.old self.new }
+    {
+        let stands = self.may_pair(p, a, n);
         if stands {
-            self.write_entry(
-                p,
-                Entry {
-                    address: a,
-                    bytes: n,
-                    value: low(n, v),
-                },
-            );
+            let e = Entry {
+                address: a,
+                bytes: n,
+                value: low(n, v),
+            };
+            self.write_entry(p, e);
         }
         self.set_link(p, None);
         stands
     }
 
+    /// Ends p's reservation, if it has one.
     pub fn drop_reservation(&mut self, p: u8)
-        requires { p < length self.old.buffers }
-        ensures storage { storage_of self.new ≡ with_linked p None (storage_of self.old) }
+        requires { p < processors self.old }
+        ensures storage { storage_of self.new ≡ dropped p (storage_of self.old) }
+        ensures spares { spare_of self.new ≡ spare_of self.old }
         ensures kept { Kept self.old self.new }
     {
         self.set_link(p, None);
-    }
-
-    /// Makes room for n stores of p.
-    pub fn reserve(&mut self, p: u8, n: u64) -> Result<(), AllocError>
-        requires { p < length self.old.buffers }
-        ensures ok { OnOk result (storage_of self.new ≡ with_spare p (most n ((storage_of self.old).spare p)) (storage_of self.old)) }
-        ensures err { OnErr result (self.new ≡ self.old) }
-        ensures kept { Kept self.old self.new }
-    {
-        let b = &mut self.buffers[p as usize];
-        b.reserve(n)
     }
 }
 
@@ -341,3 +429,6 @@ fn low(n: u8, v: u128) -> u128
         _ => unreachable!(),
     }
 }
+
+#[cfg(test)]
+mod tests;

@@ -5,7 +5,8 @@ use Rattle.std.proofs.lemmas.Bool.Decides.{nat_tests}
 use Rattle.std.proofs.Math.ListN.{length-set}
 use Rattle.std.proofs.lemmas.Grind.{common_steps}
 use Rattle.ax_store.specs.declared.entry.Reservation.{Reservation}
-use Rattle.ax_store.specs.Links.{link_of, left_of}
+use Rattle.ax_store.specs.Links.{link_of}
+use Rattle.ax_store.specs.Reservations.{left_of}
 use Rattle.ax_store.proofs.links.Links.end_others.Invariants.{Sofar}
 use Rattle.ax_store.proofs.links.Links.end_others.Goals as goal
 

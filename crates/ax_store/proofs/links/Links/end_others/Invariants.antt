@@ -1,7 +1,8 @@
 use Rattle.std.proofs.Common.{◌≡◌, ℕ, List, Option, length}
 use Rattle.std.specs.Prelude.{if◌then◌else◌, nat_lt}
 use Rattle.ax_store.specs.declared.entry.Reservation.{Reservation}
-use Rattle.ax_store.specs.Links.{link_of, left_of}
+use Rattle.ax_store.specs.Links.{link_of}
+use Rattle.ax_store.specs.Reservations.{left_of}
 use Rattle.ax_store.proofs.links.Links.end_others.Given as goal
 
 pub record Sofar (old new : List (Option Reservation)) (p a n i : ℕ) : Type 0 where

@@ -1,6 +1,7 @@
 use Rattle.std.proofs.Common.{◌+◌, ◌-◌, sym, ap, ◌∙◌}
 use Rattle.std.specs.Prelude.{◌&&◌}
-use Rattle.ax_store.specs.Places.{is_inside, all_inside}
+use Rattle.ax_store.specs.Bytes.{all_inside}
+use Rattle.ax_store.specs.Places.{is_inside}
 use Rattle.ax_store.proofs.Places.{inside_more}
 use Rattle.ax_store.proofs.memory.Memory.all_inside.Goals as goal
 

@@ -1,5 +1,6 @@
 use Rattle.std.proofs.Common.{◌≡◌, ◌+◌, ◌-◌}
-use Rattle.ax_store.specs.Places.{is_inside, all_inside}
+use Rattle.ax_store.specs.Bytes.{all_inside}
+use Rattle.ax_store.specs.Places.{is_inside}
 use Rattle.ax_store.proofs.memory.Memory.all_inside.Given as goal
 
 abbrev pub invariant-loop-i : goal.invariant-loop-i

@@ -1,6 +1,6 @@
 use Rattle.std.proofs.Common.{◌≡◌, ◌+◌, ℕ, List, refl, sym, ap, ◌∙◌}
-use Rattle.ax_store.specs.Places.{byte_at, is_inside, set_inside, put}
-use Rattle.ax_store.specs.Bytes.{byte_of}
+use Rattle.ax_store.specs.Bytes.{byte_of, put, set_inside}
+use Rattle.ax_store.specs.Places.{byte_at, is_inside}
 use Rattle.ax_store.proofs.Places.{put_more, put_none}
 use Rattle.ax_store.proofs.memory.Memory.write.Invariants.{Sofar}
 use Rattle.ax_store.proofs.memory.Memory.write.Goals as goal

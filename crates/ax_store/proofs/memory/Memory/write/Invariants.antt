@@ -1,5 +1,6 @@
 use Rattle.std.proofs.Common.{◌≡◌, ℕ, List}
-use Rattle.ax_store.specs.Places.{byte_at, is_inside, put}
+use Rattle.ax_store.specs.Bytes.{put}
+use Rattle.ax_store.specs.Places.{byte_at, is_inside}
 use Rattle.ax_store.proofs.memory.Memory.write.Given as goal
 
 pub record Sofar (rs new : List (List ℕ)) (a i v : ℕ) : Type 0 where

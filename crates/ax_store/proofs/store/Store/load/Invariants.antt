@@ -1,4 +1,5 @@
-use Rattle.ax_store.specs.Storage.{seen, storage_of}
+use Rattle.ax_store.specs.Storage.{seen}
+use Rattle.ax_store.specs.Store.{storage_of}
 use Rattle.ax_store.proofs.Reading.{Sofar}
 use Rattle.ax_store.proofs.store.Store.load.Given as goal
 

@@ -1,5 +1,6 @@
 use Rattle.std.proofs.Common.{◌≡◌, subst}
-use Rattle.ax_store.specs.Storage.{storage_of, wrote}
+use Rattle.ax_store.specs.Storage.{wrote}
+use Rattle.ax_store.specs.Store.{storage_of}
 use Rattle.ax_store.proofs.Steps.{wrote_is}
 use Rattle.ax_store.proofs.store.Store.write_entry.Goals as goal
 
