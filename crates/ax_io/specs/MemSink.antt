@@ -1,5 +1,5 @@
 -- A sink in memory: all bytes that were put, with failing calls that keep the first bytes of their piece.
-use Rattle.std.specs.Prelude.{◌≡◌, ◌≢◌, ℕ, ◌+◌, ◌-◌, ◌^◌, List, [], ◌∷◌, ◌++◌, take, min, nat_eq, option_map, Option, Some, None, Result, Ok, Err}
+use Rattle.std.specs.Prelude.{◌≡◌, ◌≢◌, ℕ, List, [], ◌∷◌, ◌++◌, take, nat_eq, option_map, Option, Some, None, Result, Ok, Err}
 use Rattle.std.specs.List.{find}
 use Rattle.ax_io.specs.declared.fault.SinkFault.{SinkFault}
 use Rattle.ax_io.specs.declared.fault.SinkFault.TheVariants.{Failed, Memory}

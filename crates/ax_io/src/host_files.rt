@@ -36,6 +36,7 @@ impl<R> Model for HostFiles<R> {
 }
 
 impl<R: rt::Files> HostFiles<R> {
+    /// Files that are reached through `rt`, of which none was asked.
     pub fn new(alloc: Global, rt: R) -> HostFiles<R>
         ensures { result ≡ record { asked = []; faults = 0; taken = 0 } }
     {

@@ -77,6 +77,7 @@ impl Sink for MemSink {
     }
 }
 
+/// How many bytes the call with this number keeps, where it fails.
 fn kept_bytes(failing: &[(u64, usize)], number: u64) -> Option<usize>
     ensures { result ≡ kept_at failing.now number }
 {

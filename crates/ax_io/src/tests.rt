@@ -1,4 +1,4 @@
-ghost use Rattle.std.specs.Prelude.{◌≡◌, ℕ, ◌≤◌, List, ◌++◌, ◌∷◌, [], Some, length, IsErrOf, IsOk, OnOk};
+ghost use Rattle.std.specs.Prelude.{◌≡◌, ℕ, ◌<◌, ◌≤◌, List, ◌++◌, ◌∷◌, [], Some, length, IsErrOf, IsOk, OnOk};
 ghost use Rattle.ax_io.specs.Count.{Rose};
 ghost use Rattle.ax_io.specs.declared.tests.CopyFault.{CopyFault};
 
@@ -27,9 +27,12 @@ fn copy<F: Files, S: Sink>(
     ensures asked { OnOk result (F.asked files.new ≡ F.asked files.old ++ name.now ∷ []) }
     ensures read { IsErrOf result CopyFault.Read → Rose (F.faults files.old) (F.faults files.new) }
     ensures write { IsErrOf result CopyFault.Write → Rose (S.faults sink.old) (S.faults sink.new) }
+    ensures long { IsErrOf result CopyFault.TooLong → limit < F.taken files.new }
     ensures complete { (c : List ℕ) → F.held files.old name.now ≡ Some c → length c ≤ limit
         → ¬ Rose (F.faults files.old) (F.faults files.new) → ¬ Rose (S.faults sink.old) (S.faults sink.new)
         → ¬ IsErrOf result CopyFault.Memory → IsOk result }
+    ensures same { (n : List ℕ) → F.held files.new n ≡ F.held files.old n }
+    ensures kept { (F.faults files.old ≤ F.faults files.new) × (S.faults sink.old ≤ S.faults sink.new) }
 {
     let bytes = match files.read(alloc, name, limit) {
         Ok(bytes) => bytes,
@@ -42,6 +45,29 @@ fn copy<F: Files, S: Sink>(
         Err(SinkFault::Failed) => Err(CopyFault::Write),
         Err(SinkFault::Memory) => Err(CopyFault::Memory),
     }
+}
+
+// Copies two files, one after the other, whose counts go together.
+#[tactic(auto, using(crate::proofs::Counts::rose_over))]
+fn copy_both<F: Files, S: Sink>(
+    alloc: Global,
+    files: &mut F,
+    sink: &mut S,
+    names: (&str, &str),
+    limit: usize,
+) -> Result<(), CopyFault>
+    ensures copied { OnOk result ((c d w : List ℕ) → F.held files.old names.entry.0.now ≡ Some c → F.held files.old names.entry.1.now ≡ Some d
+        → S.written sink.old ≡ Some w → S.written sink.new ≡ Some (w ++ c ++ d)) }
+    ensures asked { OnOk result (F.asked files.new ≡ F.asked files.old ++ names.entry.0.now ∷ names.entry.1.now ∷ []) }
+    ensures read { IsErrOf result CopyFault.Read → Rose (F.faults files.old) (F.faults files.new) }
+    ensures write { IsErrOf result CopyFault.Write → Rose (S.faults sink.old) (S.faults sink.new) }
+    ensures complete { (c d : List ℕ) → F.held files.old names.entry.0.now ≡ Some c → F.held files.old names.entry.1.now ≡ Some d
+        → length c ≤ limit → length d ≤ limit
+        → ¬ Rose (F.faults files.old) (F.faults files.new) → ¬ Rose (S.faults sink.old) (S.faults sink.new)
+        → ¬ IsErrOf result CopyFault.Memory → IsOk result }
+{
+    copy(alloc, files, sink, names.0, limit)?;
+    copy(alloc, files, sink, names.1, limit)
 }
 
 fn text(alloc: Global, s: &str) -> Result<Vec<u8>, Fail> {
