@@ -5,7 +5,6 @@ use Rattle.std.proofs.lemmas.List.Elements.{All-get_or}
 use Rattle.std.proofs.lemmas.Option.{slice_get_within, get_or_from_slice_get}
 use Rattle.ax_ops.specs.declared.source.SourceStatus.{SourceStatus}
 use Rattle.ax_ops.specs.declared.source.SourceStatus.TheVariants.{Running, Ended, Trapped}
-use Rattle.ax_source.specs.declared.first.First.{First}
 use Rattle.ax_source.specs.declared.first.FirstInst.{FirstInst}
 use Rattle.ax_source.specs.declared.first.FirstInst.TheVariants.{Load, Store, Add}
 use Rattle.ax_source.specs.declared.first.FirstValue.{FirstValue}

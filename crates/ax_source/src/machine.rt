@@ -37,11 +37,7 @@ impl<'a> Model for Machine<'a> {
 }
 
 /// A processor for each entry.
-fn processors(
-    alloc: Global,
-    p: &First,
-    entries: &[u32],
-) -> Result<Vec<Processor>, AllocError>
+fn processors(alloc: Global, p: &First, entries: &[u32]) -> Result<Vec<Processor>, AllocError>
     ensures { IfOk result (λ v. v.items ≡ map (begun p.now) entries.now) }
 {
     let mut processors = Vec::with_capacity(alloc, entries.len())?;
