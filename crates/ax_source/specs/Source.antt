@@ -1,5 +1,5 @@
 -- The source machine: *Source state*, *Source event*, *Source run*.
-use Rattle.std.specs.Prelude.{ℕ, ◌+◌, ◌%◌, ◌^◌, if◌then◌else◌, nat_eq, List, [], ◌∷◌, ◌++◌, Option, Some, None, slice_get, slice_index_or}
+use Rattle.std.specs.Prelude.{◌≡◌, ℕ, ◌+◌, ◌%◌, ◌^◌, Bool, if◌then◌else◌, nat_eq, List, [], ◌∷◌, ◌++◌, Option, Some, None, slice_get, slice_index_or, length}
 use Rattle.ax_ops.specs.declared.source.SourceEvent.{SourceEvent}
 use Rattle.ax_ops.specs.declared.source.SourceEvent.TheVariants.{Act, Look, Miss, Drain}
 use Rattle.ax_ops.specs.declared.source.SourceStatus.{SourceStatus}

@@ -1,5 +1,5 @@
 -- Which programs of the first form mean something.
-use Rattle.std.specs.Prelude.{◌≡◌, ℕ, ◌+◌, ◌<◌, ◌≤◌, ◌^◌, List, length, Option, Some, slice_get, ◌⊎◌}
+use Rattle.std.specs.Prelude.{◌≡◌, ◌≢◌, ℕ, ◌+◌, ◌<◌, ◌≤◌, ◌^◌, List, [], ◌∷◌, length, Option, Some, slice_get, ◌⊎◌}
 use Rattle.ax_source.specs.declared.first.First.{First}
 use Rattle.ax_source.specs.declared.first.FirstInst.{FirstInst}
 use Rattle.ax_source.specs.declared.first.FirstInst.TheVariants.{Load, Store, Add, Out, Ret}
