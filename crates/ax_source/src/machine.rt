@@ -13,7 +13,8 @@ use std::marker::Model;
 
 /// A run of a program: the numbers of its globals, its outputs, and its processors.
 ///
-/// All memory is taken at the start, for so many events.
+/// Contracts see it as its lists; `state_of` is the source state that it stands for. All memory is
+/// taken at the start, for as many events as are asked for.
 #[derive(Drop)]
 pub struct Machine<'a> {
     program: &'a First,
@@ -48,8 +49,9 @@ fn processors(alloc: Global, p: &First, entries: &[u32]) -> Result<Vec<Processor
 }
 
 impl<'a> Machine<'a> {
-    /// A machine before its first event, with the memory for so many events; the processors begin
-    /// at the functions whose positions the entries are.
+    /// A machine before its first event, with one processor for each entry, which is the position
+    /// of the function that it begins. It takes the memory for so many events, and fails only where
+    /// there is none.
     pub fn start(
         alloc: Global,
         p: &'a First,
@@ -88,7 +90,7 @@ impl<'a> Machine<'a> {
         self.outputs.as_slice()
     }
 
-    /// The number of an element of a global.
+    /// The number of an element of a global, which has one, its element 0.
     pub fn object(&self, g: u32, i: u64) -> u128
         requires { HasElement self.now.program g i }
         ensures { result ≡ (state_of self.now).numbers g i }
@@ -96,7 +98,7 @@ impl<'a> Machine<'a> {
         u128::from(self.numbers[g as usize])
     }
 
-    /// Whether a processor still runs.
+    /// Whether a processor still runs, by its position in the entries.
     pub fn status(&self, p: u8) -> SourceStatus
         requires { p < length self.now.processors }
         ensures { result ≡ ((state_of self.now).processors p).status }
@@ -219,7 +221,8 @@ impl<'a> Machine<'a> {
         self.room -= 1;
     }
 
-    /// One event. It takes no memory, and its time does not depend on the program.
+    /// One event of a processor, which uses up the room of one. It takes no memory, and its time
+    /// does not depend on the program.
     pub fn step(&mut self, e: SourceEvent)
         requires room { 1 ≤ self.old.room }
         requires processor { named_by e < length self.old.processors }
