@@ -1,6 +1,6 @@
 -- The source state that a machine stands for, and its steps on lists.
-pub use Rattle.ax_source.specs.MachineState.{ProcessorState, MachineState, insts_of, IsSound}
-use Rattle.std.specs.Prelude.{◌≡◌, ◌<◌, ℕ, ◌+◌, ◌%◌, ◌^◌, List, [], ◌∷◌, Option, Some, None, slice_get, slice_index_or, slice_index, slice_set, length, replicate}
+pub use Rattle.ax_source.specs.MachineState.{ProcessorState, MachineState, insts_of, HasItsRoom, IsSound}
+use Rattle.std.specs.Prelude.{◌≡◌, ◌<◌, ℕ, ◌+◌, ◌%◌, ◌^◌, List, [], ◌∷◌, ◌++◌, ◌-◌, Option, Some, None, slice_get, slice_index_or, slice_index, slice_set, length, replicate}
 use Rattle.ax_source.specs.declared.first.FirstValue.{FirstValue}
 use Rattle.ax_ops.specs.declared.source.SourceEvent.{SourceEvent}
 use Rattle.ax_ops.specs.declared.source.SourceEvent.TheVariants.{Act, Look, Miss, Drain}
@@ -72,8 +72,11 @@ abbrev pub with_number : ℕ → ℕ → MachineState → MachineState
 with_number g n m = record m { numbers = slice_set m.numbers g n }
 
 -- a processor of a machine; past the last there is one that has ended
+abbrev pub idle : ProcessorState
+idle = record { function = 0; place = 0; values = []; status = Ended }
+
 abbrev pub processor_in : MachineState → ℕ → ProcessorState
-processor_in m p = slice_index_or m.processors p (record { function = 0; place = 0; values = []; status = Ended })
+processor_in m p = slice_index_or m.processors p idle
 
 abbrev pub next_in : MachineState → ℕ → Option FirstInst
 next_in m p = next_of m.program (processor_in m p)
@@ -100,17 +103,22 @@ performed (Add g v o) p m = with_processor p (got (slice_index m.numbers g) (pro
 performed (Out v) p m = with_processor p (moved (processor_in m p)) m
 performed Ret p m = with_processor p (ended (processor_in m p)) m
 
-abbrev pub written_by : FirstInst → ℕ → MachineState → Option ℕ
+abbrev pub written_by : FirstInst → ℕ → MachineState → Option (ℕ × ℕ)
 written_by (Load g o) p m = None
 written_by (Store v g o) p m = None
 written_by (Add g v o) p m = None
-written_by (Out v) p m = Some (value_in m p v)
+written_by (Out v) p m = Some (p, value_in m p v)
 written_by Ret p m = None
 
 abbrev pub performed_if : Option FirstInst → ℕ → MachineState → MachineState
 performed_if None p m = m
 performed_if (Some inst) p m = performed inst p m
 
-abbrev pub written_if : Option FirstInst → ℕ → MachineState → Option ℕ
+abbrev pub written_if : Option FirstInst → ℕ → MachineState → Option (ℕ × ℕ)
 written_if None p m = None
 written_if (Some inst) p m = written_by inst p m
+
+-- an event is counted, and what it writes out joins the outputs
+abbrev pub counted : Option (ℕ × ℕ) → MachineState → MachineState
+counted None m = record m { room = m.room - 1 }
+counted (Some output) m = record m { room = m.room - 1; outputs = m.outputs ++ output ∷ [] }

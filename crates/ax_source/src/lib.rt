@@ -8,3 +8,6 @@ mod processor;
 pub use ax_ops::{Items, SourceEvent, SourceStatus};
 pub use first::{First, FirstInst, FirstValue};
 pub use machine::Machine;
+
+#[cfg(test)]
+mod tests;

@@ -1,9 +1,9 @@
 //! The source machine: one source event at a time, in constant time and without taking memory.
 
-ghost use Rattle.std.specs.Prelude.{◌≡◌, ◌+◌, ◌<◌, ◌≤◌, length, slice_index, IfOk, Some};
+ghost use Rattle.std.specs.Prelude.{◌≡◌, ◌+◌, ◌<◌, ◌≤◌, length, map, slice_index, IfOk, Some};
 ghost use Rattle.ax_source.specs.Source.{source_start, source_event};
 ghost use Rattle.ax_source.specs.WellFormed.{IsFirst};
-ghost use Rattle.ax_source.specs.Machine.{state_of, named_by, Kept, HasElement, IsSound, IsNext, Stands, processor_in, next_in, value_in, moved, got, ended, with_processor, with_number, performed, written_by, performed_if, written_if};
+ghost use Rattle.ax_source.specs.Machine.{state_of, named_by, Kept, HasElement, IsSound, IsNext, Stands, processor_in, next_in, value_in, moved, got, ended, with_processor, with_number, performed, written_by, counted, begun};
 
 use crate::first::{First, FirstInst, FirstValue};
 use crate::processor::Processor;
@@ -13,7 +13,8 @@ use std::marker::Model;
 
 /// A run of a program: the numbers of its globals, its outputs, and its processors.
 ///
-/// All memory is taken at the start, for so many events.
+/// Contracts see it as its lists; `state_of` is the source state that it stands for. All memory is
+/// taken at the start, for as many events as are asked for.
 #[derive(Drop)]
 pub struct Machine<'a> {
     program: &'a First,
@@ -36,7 +37,45 @@ impl<'a> Model for Machine<'a> {
         × IsSound (record { program = m.program.now; room = m.room; numbers = m.numbers.items; outputs = m.outputs.items; processors = m.processors.items }) };
 }
 
+/// A processor for each entry.
+fn processors(alloc: Global, p: &First, entries: &[u32]) -> Result<Vec<Processor>, AllocError>
+    ensures { IfOk result (λ v. v.items ≡ map (begun p.now) entries.now) }
+{
+    let mut processors = Vec::with_capacity(alloc, entries.len())?;
+    for entry in entries {
+        processors.push(Processor::begin(alloc, p, *entry)?)?;
+    }
+    Ok(processors)
+}
+
 impl<'a> Machine<'a> {
+    /// A machine before its first event, with one processor for each entry, which is the position
+    /// of the function that it begins. It takes the memory for so many events, and fails only where
+    /// there is none.
+    pub fn start(
+        alloc: Global,
+        p: &'a First,
+        entries: &[u32],
+        events: u64,
+    ) -> Result<Machine<'a>, AllocError>
+        requires { IsFirst p.now }
+        ensures state { IfOk result (λ m. state_of m ≡ source_start p.entry.now entries.now) }
+        ensures room { IfOk result (λ m. m.room ≡ events) }
+        ensures program { IfOk result (λ m. m.program ≡ p.entry.now) }
+        ensures processors { IfOk result (λ m. length m.processors ≡ length entries.now) }
+    {
+        let numbers = Vec::from_slice(alloc, p.globals.as_slice())?;
+        let outputs = Vec::with_capacity(alloc, events as usize)?;
+        let processors = processors(alloc, p, entries)?;
+        Ok(Machine {
+            program: p,
+            room: events,
+            numbers,
+            outputs,
+            processors,
+        })
+    }
+
     /// How many events still fit.
     pub fn room(&self) -> u64
         ensures { result ≡ self.now.room }
@@ -51,7 +90,7 @@ impl<'a> Machine<'a> {
         self.outputs.as_slice()
     }
 
-    /// The number of an element of a global.
+    /// The number of an element of a global, which has one, its element 0.
     pub fn object(&self, g: u32, i: u64) -> u128
         requires { HasElement self.now.program g i }
         ensures { result ≡ (state_of self.now).numbers g i }
@@ -59,7 +98,7 @@ impl<'a> Machine<'a> {
         u128::from(self.numbers[g as usize])
     }
 
-    /// Whether a processor still runs.
+    /// Whether a processor still runs, by its position in the entries.
     pub fn status(&self, p: u8) -> SourceStatus
         requires { p < length self.now.processors }
         ensures { result ≡ ((state_of self.now).processors p).status }
@@ -121,8 +160,8 @@ impl<'a> Machine<'a> {
         processor.end();
     }
 
-    /// Runs an instruction, and gives the number that it writes out.
-    fn perform(&mut self, p: u8, inst: FirstInst) -> Option<u64>
+    /// Runs an instruction, and gives what it writes out.
+    fn perform(&mut self, p: u8, inst: FirstInst) -> Option<(u8, u64)>
         requires { IsNext self.old p inst }
         ensures machine { self.new ≡ performed inst p self.old }
         ensures output { result ≡ written_by inst p self.old }
@@ -149,7 +188,7 @@ impl<'a> Machine<'a> {
             FirstInst::Out { value } => {
                 let number = self.value(p, value);
                 self.pass(p);
-                Some(number)
+                Some((p, number))
             }
             FirstInst::Ret => {
                 self.end(p);
@@ -158,15 +197,45 @@ impl<'a> Machine<'a> {
         }
     }
 
-    /// Runs a processor's next instruction, and gives the number that it writes out.
-    fn act(&mut self, p: u8) -> Option<u64>
+    /// Runs a processor's next instruction, and gives what it writes out.
+    fn act(&mut self, p: u8) -> Option<(u8, u64)>
         requires { p < length self.old.processors }
-        ensures machine { self.new ≡ performed_if (next_in self.old p) p self.old }
-        ensures output { result ≡ written_if (next_in self.old p) p self.old }
+        ensures state { state_of (counted result self.new) ≡ source_event self.old.program (SourceEvent.Act p) (state_of self.old) }
+        ensures room { self.new.room ≡ self.old.room }
+        ensures kept { Kept self.old self.new }
     {
         match self.next(p) {
             Some(inst) => self.perform(p, inst),
             None => None,
+        }
+    }
+
+    /// Counts an event, and writes its output out.
+    fn count(&mut self, output: Option<(u8, u64)>)
+        requires { 1 ≤ self.old.room }
+        ensures { self.new ≡ counted output self.old }
+    {
+        if let Some(output) = output {
+            self.outputs.push_reserved(output);
+        }
+        self.room -= 1;
+    }
+
+    /// One event of a processor, which uses up the room of one. It takes no memory, and its time
+    /// does not depend on the program.
+    pub fn step(&mut self, e: SourceEvent)
+        requires room { 1 ≤ self.old.room }
+        requires processor { named_by e < length self.old.processors }
+        ensures state { state_of self.new ≡ source_event self.old.program e (state_of self.old) }
+        ensures room { self.new.room + 1 ≡ self.old.room }
+        ensures kept { Kept self.old self.new }
+    {
+        match e {
+            SourceEvent::Act(p) => {
+                let output = self.act(p);
+                self.count(output);
+            }
+            SourceEvent::Look(_) | SourceEvent::Miss(_) | SourceEvent::Drain(_) => self.count(None),
         }
     }
 }

@@ -87,7 +87,7 @@ impl Processor {
         ensures { self.new ≡ got n self.old }
     {
         self.values[self.place] = n;
-        self.place += 1;
+        self.pass();
     }
 
     /// Returns from its function.
