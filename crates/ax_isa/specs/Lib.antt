@@ -1,0 +1,4 @@
+pub mod Processor
+pub mod Steps
+pub mod Run
+pub mod Contract

@@ -1,0 +1,9 @@
+pub mod Quiet
+pub mod Follow
+pub mod Runs
+pub mod Straight
+pub mod Meaning
+pub mod Words
+pub mod Silents
+pub mod Parts
+pub mod Acts

@@ -1,0 +1,4 @@
+pub mod Layout
+pub mod Agree
+pub mod Lowers
+pub mod Code

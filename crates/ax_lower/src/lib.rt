@@ -1,0 +1,4 @@
+//! The lowering of a program to an image.
+#![tactic(auto)]
+
+pub use ax_isa::Image;
