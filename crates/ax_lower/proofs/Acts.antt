@@ -88,7 +88,7 @@ module _ (program : First) (begins : ℕ → ℕ → ℕ) (code : List RvInstr) 
           }
 
   below_frames : (q b adr : ℕ) → adr + 8 ≤ 16777216 → ¬ MayWrite q b → (b < adr) ⊎ (adr + 8 ≤ b)
-  below_frames q b adr low h = inr (elim (cases_lt b 16777216) [ | inl l ↦ absurd (h (inl l)) | inr l ↦ omega (arith, low, l) ])
+  below_frames q b adr low h = inr (elim (cases_lt b 16777216) [ inl l ↦ absurd (h (inl l)) | inr l ↦ omega (arith, low, l) ])
 
   -- a write to a global
   global_written : (m : Noted) (g v : ℕ) → g < length program.globals → ByOwn p m (write p (entry_of (address_of g) 8 v) m)
@@ -123,7 +123,7 @@ module _ (program : First) (begins : ℕ → ℕ → ℕ) (code : List RvInstr) 
   place_kept f k e = λ d q. at q d
     where
       at : (q : ℕ) → at_place f k [] q ≡ f q
-      at q = elim (cases_eq q k) [ | inl same ↦ subst (λ y. at_place f k [] y ≡ f y) (sym same) (at_same f k [] ∙ sym e) | inr ne ↦ at_other f k [] q ne ]
+      at q = elim (cases_eq q k) [ inl same ↦ subst (λ y. at_place f k [] y ≡ f y) (sym same) (at_same f k [] ∙ sym e) | inr ne ↦ at_other f k [] q ne ]
 
   -- nothing waits, so nothing is written out
   flush_flat : (m : Noted) → m.storage.waiting p ≡ [] → flush p m ≡ m

@@ -7,3 +7,5 @@ pub mod Words
 pub mod Silents
 pub mod Parts
 pub mod Acts
+pub mod Pieces
+pub mod Places

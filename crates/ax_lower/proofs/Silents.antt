@@ -82,13 +82,14 @@ module _ (program : First) (begins : ℕ → ℕ → ℕ) (code : List RvInstr) 
       outside b h = ⊎_elim (λ l. inl l) (λ l. ⊎_elim (λ u. absurd (h (inr (omega (arith, own.low, l), omega (arith, own.high, u))))) (λ u. inr u) (cases_lt b (adr + 8))) (cases_lt b adr)
 
       calm : (m : Noted) → Frame rv_kind code marks (meaning_of program begins) 8 p ins f m → m.storage.waiting p ≡ [] → (possible (Store adr 8 v) c m ≡ true) × Calm rv_kind code marks (meaning_of program begins) 8 p ins (kept_frame adr v f) (go_on c) m (effected false p (Store adr 8 v) c m)
-      calm m g w =
-          (ap (λ y. is_place (c.place + 1) && (nat_eq (adr % 8) 0 && all_inside y adr 8)) g.inside ∙ aligned_inside c ins adr r.place own.aligned all,
-          record {
-            processor = refl;
-            frame = record { inside = g.inside; own = λ b o. ap (λ y. put y adr 8 (cut 8 v) m.storage.mem b) g.inside ∙ ap (λ y. if covers adr 8 b && ins b then byte_of (cut 8 v) (b - adr) else y) (g.own b o) };
-            touches = record { inside = refl; waiting = refl; others = λ b h. put_other m.storage.inside adr 8 (cut 8 v) m.storage.mem b (outside b h) };
-            world = world_kept (length program.globals) _ m.storage.mem few_globals (λ b h. put_other m.storage.inside adr 8 (cut 8 v) m.storage.mem b (inl (omega (arith, own.low, h))));
-            output = refl;
-            caused = refl;
-          })
+      calm m g w = (
+        ap (λ y. is_place (c.place + 1) && (nat_eq (adr % 8) 0 && all_inside y adr 8)) g.inside ∙ aligned_inside c ins adr r.place own.aligned all,
+        record {
+          processor = refl;
+          frame = record { inside = g.inside; own = λ b o. ap (λ y. put y adr 8 (cut 8 v) m.storage.mem b) g.inside ∙ ap (λ y. if covers adr 8 b && ins b then byte_of (cut 8 v) (b - adr) else y) (g.own b o) };
+          touches = record { inside = refl; waiting = refl; others = λ b h. put_other m.storage.inside adr 8 (cut 8 v) m.storage.mem b (outside b h) };
+          world = world_kept (length program.globals) _ m.storage.mem few_globals (λ b h. put_other m.storage.inside adr 8 (cut 8 v) m.storage.mem b (inl (omega (arith, own.low, h))));
+          output = refl;
+          caused = refl;
+        },
+      )

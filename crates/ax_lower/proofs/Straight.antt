@@ -82,7 +82,7 @@ module _ {I P W : Type 0} (k : Kind I) (code : List I) (marks : ℕ → Tag) (l 
   -- the instruction whose step makes the event
   pub acting : (f : ℕ → ℕ) (idle : ℕ) (s : P) (c : Processor) (i : I) (e : Effect) → at_code code c.place ≡ Some i → marks c.place ≡ Act → k.effect_of i c ≡ e
       → ((hs : List Happening) (n : Noted) → Frame f n → Steppable l most k code marks p false s c n
-        → (possible e c n ≡ true) × Possible (l.chosen An_act p s (l.world n.storage)) (λ u. OwnStep l most (Then hs) p false idle n (effected k.buffered p e c n) An_act u))
+      → (possible e c n ≡ true) × Possible (l.chosen An_act p s (l.world n.storage)) (λ u. OwnStep l most (Then hs) p false idle n (effected k.buffered p e c n) An_act u))
       → Goes f false idle s c
   acting f idle s c i e at mark is act n h hs =
       straight f false idle s c (λ m g a b. absurd (false≢true a)) (λ gs m g x. (let y = act gs m g x in fetch (Then gs) i Act e false idle s c m at mark is y.0 y.1)) hs n h

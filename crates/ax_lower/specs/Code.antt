@@ -1,5 +1,5 @@
 -- The code of each instruction of the first form, and the image of a program.
-use Rattle.std.specs.Prelude.{ℕ, zero, suc, ◌+◌, ◌-◌, ◌*◌, ◌^◌, if◌then◌else◌, nat_lt, nat_eq, ℤ, pos, negsuc, List, [], ◌∷◌, ◌++◌, length, map}
+use Rattle.std.specs.Prelude.{◌≡◌, ℕ, zero, suc, ◌+◌, ◌-◌, ◌*◌, ◌^◌, if◌then◌else◌, nat_lt, nat_eq, ℤ, pos, negsuc, List, [], ◌∷◌, ◌++◌, length, map}
 use Rattle.ax_isa.specs.declared.tags.Tag.{Tag}
 use Rattle.ax_isa.specs.declared.tags.Tag.TheVariants.{Silent, Act}
 use Rattle.ax_rv.specs.declared.instructions.RvInstr.{RvInstr}
@@ -12,6 +12,9 @@ use Rattle.ax_source.specs.declared.first.FirstInst.{FirstInst}
 use Rattle.ax_source.specs.declared.first.FirstInst.TheVariants.{Load, Store, Add as Plus, Out, Ret as Return}
 use Rattle.ax_source.specs.declared.first.FirstValue.{FirstValue}
 use Rattle.ax_source.specs.declared.first.FirstValue.TheVariants.{Const, Result}
+use Rattle.ax_isa.specs.declared.images.Image.{Image}
+use Rattle.ax_isa.specs.declared.images.SiteRange.{SiteRange}
+use Rattle.ax_source.specs.declared.first.First.{First}
 use Rattle.ax_lower.specs.Layout.{address_of}
 
 abbrev pub Piece : Type 0
@@ -55,10 +58,10 @@ abbrev pub before_load : ℕ → Piece
 before_load o = if nat_eq o 5 then fence AllBeforeAll else []
 
 abbrev pub after_load : ℕ → Piece
-after_load o = if nat_eq o 0 then [] else fence ReadBeforeAll
+after_load o = if nat_lt 0 o then fence ReadBeforeAll else []
 
 abbrev pub before_store : ℕ → Piece
-before_store o = if nat_eq o 0 then [] else fence AllBeforeWrite
+before_store o = if nat_lt 0 o then fence AllBeforeWrite else []
 
 abbrev pub ending_of : ℕ → Ending
 ending_of o = if nat_eq o 0 then Plain else (if nat_eq o 2 then Acquire else (if nat_eq o 3 then Release else AcquireRelease))
@@ -79,3 +82,30 @@ function_code k (i ∷ insts) = piece_of k i ++ function_code (k + 1) insts
 abbrev pub program_code : List (List FirstInst) → Piece
 program_code [] = []
 program_code (insts ∷ functions) = function_code 0 insts ++ program_code functions
+
+-- the places of the functions' first instructions, from a place on
+abbrev pub entries_from : ℕ → List (List FirstInst) → List ℕ
+entries_from place [] = []
+entries_from place (insts ∷ functions) = place ∷ entries_from (place + length (function_code 0 insts)) functions
+
+-- a frame has 8 bytes for the stack pointer's word and for each result that may be
+abbrev pub frames_of : List (List FirstInst) → List ℕ
+frames_of functions = map (λ insts. 8 * length insts) functions
+
+-- the ranges of the instructions of function f from number k on, from a place on
+abbrev pub sites_in : ℕ → ℕ → ℕ → List FirstInst → List SiteRange
+sites_in f k place [] = []
+sites_in f k place (i ∷ insts) =
+    record { site = record { function = f; instruction = k }; first = place; last = place + length (piece_of k i) - 1 } ∷ sites_in f (k + 1) (place + length (piece_of k i)) insts
+
+abbrev pub sites_from : ℕ → ℕ → List (List FirstInst) → List SiteRange
+sites_from f place [] = []
+sites_from f place (insts ∷ functions) = sites_in f 0 place insts ++ sites_from (f + 1) (place + length (function_code 0 insts)) functions
+
+-- THE IMAGE OF A PROGRAM
+pub record IsImageOf (image : Image RvInstr) (program : First) : Type 0 where
+  pub code : image.code ≡ map (λ x. x.0) (program_code program.functions)
+  pub tags : image.tags ≡ map (λ x. x.1) (program_code program.functions)
+  pub sites : image.sites ≡ sites_from 0 1 program.functions
+  pub entries : image.entries ≡ entries_from 1 program.functions
+  pub frames : image.frames ≡ frames_of program.functions
