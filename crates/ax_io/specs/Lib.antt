@@ -4,3 +4,4 @@ pub mod Sink
 pub mod MemFiles
 pub mod MemSink
 pub mod HostFiles
+pub mod HostSink

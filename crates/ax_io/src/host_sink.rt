@@ -1,6 +1,6 @@
-ghost use Rattle.std.specs.Prelude.{◌≡◌, ℕ, ◌<◌, [], List, None, Option, length, take, IsErrOf, IsOk, OnOk, OnErr};
+ghost use Rattle.std.specs.Prelude.{◌≡◌, ℕ, ◌<◌, [], List, None, Option, length, take, IsErrOf, IsOk, OnOk, OnErr, Err, is_ok, if◌then◌else◌};
 ghost use Rattle.std.specs.Io.KnownBytes.{Appends};
-ghost use Rattle.ax_io.specs.Count.{Rose, RaisesOnly};
+ghost use Rattle.ax_io.specs.Count.{raised, Rose, RaisesOnly};
 ghost use Rattle.ax_io.specs.Sink.{Adds};
 
 use crate::{Sink, SinkFault};
@@ -8,23 +8,29 @@ use std::io;
 use std::io::{ErrorKind, Write};
 use std::marker::Model;
 
-/// Standard output, or another writer of the system. Nothing is told of what it holds.
+/// Standard output, or another writer of the system. As a sink it tells nothing of what was written;
+/// where it is known what the writer holds, as of one in memory, its own clauses say what a call adds.
 #[derive(Drop)]
-pub struct HostSink<W> {
+pub struct HostSink<W: Write> {
     to: W,
     faults: u64,
 }
 
-impl<W> Model for HostSink<W> {
-    ghost Value = { ℕ };
+impl<W: Write> Model for HostSink<W> {
+    ghost use Rattle.ax_io.specs.HostSink.{HostSinkState};
 
-    ghost view = { λ h. h.faults };
+    ghost Value = { HostSinkState };
+
+    ghost view = { λ h. record {
+      known = W.contents h.to;
+      faults = h.faults;
+    } };
 }
 
 impl<W: Write> HostSink<W> {
-    /// A sink over that writer, which clauses see as its count of failed calls.
+    /// A sink over that writer.
     pub fn new(to: W) -> HostSink<W>
-        ensures { result ≡ 0 }
+        ensures { result ≡ record { known = W.contents to; faults = 0 } }
     {
         HostSink { to, faults: 0 }
     }
@@ -33,9 +39,15 @@ impl<W: Write> HostSink<W> {
 impl<W: Write> Sink for HostSink<W> {
     ghost written = { λ _. None };
 
-    ghost faults = { λ h. h };
+    ghost faults = { λ h. h.faults };
 
-    fn put(&mut self, bytes: &[u8]) -> Result<(), SinkFault> {
+    fn put(&mut self, bytes: &[u8]) -> Result<(), SinkFault>
+        ensures whole { OnOk result (Appends self.old.known self.new.known bytes.now) }
+        ensures prefix { OnErr result ((n : ℕ) × Appends self.old.known self.new.known (take n bytes.now)) }
+        ensures counts { self.new.faults ≡ (if is_ok result then self.old.faults else raised self.old.faults) }
+        ensures failed { OnErr result ((result ≡ Err SinkFault.Failed) × (0 < length bytes.now)) }
+        ensures raises { RaisesOnly self.old.faults self.new.faults (IsErrOf result SinkFault.Failed) }
+    {
         if write_whole(&mut self.to, bytes).is_err() {
             self.faults = self.faults.saturating_add(1);
             return Err(SinkFault::Failed);
