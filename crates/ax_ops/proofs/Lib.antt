@@ -1,2 +1,3 @@
+pub mod Operations
 pub mod Routines
 pub mod Words

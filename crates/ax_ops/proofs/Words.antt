@@ -1,6 +1,6 @@
 -- Words of 128 bits cut to the width of a value.
 use Rattle.std.proofs.Common.{◌≡◌, ℕ, ◌+◌, ◌-◌, ◌*◌, ◌%◌, ◌^◌, ◌<◌, ◌≤◌, List, length, drop, get_or, ◌∙◌, ap, subst, add-one, arith}
-use Rattle.std.specs.Prelude.{bit_and, bit_or, bit_xor, zero, suc}
+use Rattle.std.specs.Prelude.{bit_and, zero, suc}
 use Rattle.std.proofs.lemmas.Nat.{and_mask, and_le_l, or_lt, xor_lt, pow-add, pow_pos, mod_below}
 use Rattle.std.proofs.Math.Pow.{mod-mod-pow}
 use Rattle.std.proofs.Math.Nat.{add-mul-mod_self_right, pow-le-pow_right}
@@ -41,12 +41,6 @@ sub_wrapped a b n width below =
     let powers : 2 ^ 128 ≡ 2 ^ (128 - 8 * n) * 2 ^ (8 * n) = ap (λ k. 2 ^ k) parts ∙ pow-add 2 (128 - 8 * n) (8 * n) in
     let e : 2 ^ 128 ≡ (2 ^ (128 - 8 * n) - 1) * 2 ^ (8 * n) + 2 ^ (8 * n) = powers ∙ split (2 ^ (128 - 8 * n)) (2 ^ (8 * n)) (pow_pos (128 - 8 * n)) in
     wrapped (a + (2 ^ 128 - b)) n width ∙ differ a b (2 ^ (8 * n)) (2 ^ (128 - 8 * n) - 1) (2 ^ 128) below e
-
-pub or_fits : (n a b : ℕ) → a < 2 ^ (8 * n) → b < 2 ^ (8 * n) → bit_or a b < 2 ^ (8 * n)
-or_fits n a b = or_lt (8 * n) a b
-
-pub xor_fits : (n a b : ℕ) → a < 2 ^ (8 * n) → b < 2 ^ (8 * n) → bit_xor a b < 2 ^ (8 * n)
-xor_fits n a b = xor_lt (8 * n) a b
 
 pub mod_fits : (x n : ℕ) → x % 2 ^ (8 * n) < 2 ^ (8 * n)
 mod_fits x n = mod_below x (2 ^ (8 * n)) (pow_pos (8 * n))
