@@ -9,3 +9,5 @@ pub mod Parts
 pub mod Acts
 pub mod Pieces
 pub mod Places
+pub mod Reached
+pub mod Lowered
