@@ -2,3 +2,4 @@ pub mod Layout
 pub mod Agree
 pub mod Lowers
 pub mod Code
+pub mod Sound
