@@ -10,4 +10,4 @@ pub mod Acts
 pub mod Pieces
 pub mod Places
 pub mod Reached
-pub mod Lowered
+pub mod Agreement
