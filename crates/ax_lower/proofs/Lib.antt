@@ -11,3 +11,4 @@ pub mod Pieces
 pub mod Places
 pub mod Reached
 pub mod Agreement
+pub mod Soundness
