@@ -12,3 +12,4 @@ pub mod Places
 pub mod Reached
 pub mod Agreement
 pub mod Soundness
+pub mod Marks

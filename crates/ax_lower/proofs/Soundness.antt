@@ -102,7 +102,7 @@ entries_length place [] = refl
 entries_length place (insts ∷ functions) = ap suc (entries_length (place + length (function_code 0 insts)) functions)
 
 -- no piece is empty
-piece_some : (k : ℕ) (i : FirstInst) → 1 ≤ length (piece_of k i)
+pub piece_some : (k : ℕ) (i : FirstInst) → 1 ≤ length (piece_of k i)
 piece_some k (Load g o) =
     let A : Piece = (Li 5 (address_of g), Silent) ∷ before_load o in
     let B : Piece = (Ld 6 (pos 0) 5, Act) ∷ after_load o in
