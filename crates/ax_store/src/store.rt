@@ -1,5 +1,5 @@
 // The storage of the machines.
-ghost use Rattle.std.specs.Prelude.{drop, ◌↔◌, ◌≡◌, ◌≢◌, ◌+◌, ◌*◌, ◌^◌, ◌<◌, ◌≤◌, ℕ, List, [], Bool, true, false, IsTrue, OnOk, OnErr, Option, Some, None, All, length, if◌then◌else◌, IfOk, replicate, slice_index_or};
+ghost use Rattle.std.specs.Prelude.{drop, is_some, ◌≡◌, ◌*◌, ◌+◌, ◌^◌, ◌<◌, ◌≤◌, ℕ, true, false, OnOk, OnErr, IfOk, Option, None, All, length, replicate, slice_index_or};
 ghost use Rattle.ax_store.specs.declared.entry.Entry.{Entry};
 ghost use Rattle.ax_store.specs.declared.entry.Reservation.{Reservation};
 ghost use Rattle.ax_store.specs.Buffers.{latest, none};
@@ -140,7 +140,7 @@ impl Store {
     #[tactic(auto, unfolding(crate::specs::Store::storage_of, crate::specs::Store::processors))]
     pub fn linked(&self, p: u8) -> bool
         requires { p < processors self.now }
-        ensures { IsTrue result ↔ ((storage_of self.now).linked p ≢ None) }
+        ensures { result ≡ is_some ((storage_of self.now).linked p) }
     {
         self.links.get(p as usize).is_some()
     }
