@@ -2,7 +2,8 @@
 
 ghost use Rattle.std.specs.Prelude.{◌≡◌, ◌≢◌, map, codes, ◌++◌, ◌∷◌, []};
 ghost use Rattle.std.specs.String.{string_bytes};
-ghost use Rattle.ax_app.specs.Serve.{Reading, Writing, Writes, IsServed, written_of, answer_of};
+ghost use Rattle.ax_app.specs.Writing.{Writing, Writes, written_of, answer_of};
+ghost use Rattle.ax_app.specs.Serve.{Reading, IsServed};
 ghost use Rattle.ax_app.specs.declared.done.Done.{Done};
 
 use crate::done::Done;
