@@ -9,3 +9,4 @@ pub mod Parts
 pub mod Acts
 pub mod Pieces
 pub mod Places
+pub mod Emitted
