@@ -33,7 +33,7 @@ pub record IsTextOf (source : FirstModule) (plan : Plan) (text : List ℕ) : Typ
   pub rows : HasRows image source.program
   pub whole :
       text ≡ assembly_text source.functions image
-      ++ run_report source.globals 256 (length plan.entries) (run_of image source.program plan.entries (plan_events plan)) (explained_by image source.program plan.entries (plan_events plan)) (plan_events plan)
+      ++ run_report source.globals (length plan.entries) (run_of image source.program plan.entries (plan_events plan)) (explained_by image source.program plan.entries (plan_events plan)) (plan_events plan)
 
 -- THE HEADLINE: the text of the module and of the plan that the files' bytes spell
 pub record IsRunText (module_bytes schedule_bytes text : List ℕ) : Type 0 where
@@ -70,6 +70,9 @@ pub record Reading : Type 0 where
   pub faults_before : ℕ
   pub faults : ℕ
   pub taken : ℕ
+
+abbrev pub reading : (List ℕ → Option (List ℕ)) → List (List ℕ) → List (List ℕ) → ℕ → ℕ → ℕ → Reading
+reading held asked_before asked faults_before faults taken = record { held = held; asked_before = asked_before; asked = asked; faults_before = faults_before; faults = faults; taken = taken }
 
 -- the names that joined those asked for are the first of the command's file words
 abbrev pub HasAsked : Reading → List (List ℕ) → Type 0

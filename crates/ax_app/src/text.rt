@@ -1,8 +1,8 @@
 //! The text of a run.
 
-ghost use Rattle.std.specs.Prelude.{◌≡◌, IfOk, length, All};
+ghost use Rattle.std.specs.Prelude.{IfOk, length};
 ghost use Rattle.std.specs.String.{string_bytes};
-ghost use Rattle.ax_source.specs.WellFormed.{IsFirst, IsWithinLimits};
+ghost use Rattle.ax_app.specs.Facts.{FirstFacts};
 ghost use Rattle.ax_sched.specs.Plan.{IsPlan};
 ghost use Rattle.ax_app.specs.Serve.{IsTextOf};
 
@@ -19,8 +19,7 @@ pub(crate) fn text_of(
     source: FirstModule,
     plan: &Plan,
 ) -> Result<String, AllocError>
-    requires first { IsFirst source.program }
-    requires limits { IsWithinLimits source.program }
+    requires facts { FirstFacts source }
     requires plan { IsPlan (length source.program.functions) plan.now }
     ensures { IfOk result (λ text. IsTextOf source plan.now (string_bytes text)) }
 {
