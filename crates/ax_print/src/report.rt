@@ -38,7 +38,7 @@ pub fn push_outputs(out: &mut String, outputs: &[(u8, u64)]) -> Result<(), Alloc
 }
 
 /// Appends the line of element `i` of a global, or nothing where its number `v` is 0.
-pub fn push_object(out: &mut String, name: &Name, i: u64, v: u64) -> Result<(), AllocError>
+pub fn push_object(out: &mut String, name: &Name, i: u64, v: u128) -> Result<(), AllocError>
     requires { All (λ b. b < 128) name.now }
     ensures { OnOk result (string_bytes out.new ≡ string_bytes out.old ++ object_line name.now i v) }
 {
