@@ -71,8 +71,9 @@ module _ (first second whole : Reading) (m s bytes : List ℕ) (source : FirstMo
 
     pub whole_text : (plan : Plan) (text : String Rattle.std.proofs.Common.Global) → IsFirstSchedule schedule source.functions plan → IsTextOf source plan (string_bytes text) → CauseOf whole (Some (m, s)) (verdict.Text text)
     unfolding built
-    whole_text plan text fits t =
-        (asked_two k.asked,
-        λ c d tc td.
+    whole_text plan text fits t = (
+      asked_two k.asked,
+      λ c d tc td.
           let b = built c tc in
-          (b.within, k.within d (told_second d td), record { source = source; reads = b.reads; plan = plan; planned = subst (λ x. IsFirstSchedule x source.functions plan) (k.told d (told_second d td)) fits; is = t }))
+          (b.within, k.within d (told_second d td), record { source = source; reads = b.reads; plan = plan; planned = subst (λ x. IsFirstSchedule x source.functions plan) (k.told d (told_second d td)) fits; is = t }),
+    )
