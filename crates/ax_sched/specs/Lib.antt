@@ -1,0 +1,4 @@
+pub mod Plan
+pub mod Events
+pub mod First
+pub mod Reading
