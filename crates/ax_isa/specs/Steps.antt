@@ -5,7 +5,6 @@ use Rattle.ax_store.specs.declared.entry.Entry.{Entry}
 use Rattle.ax_store.specs.declared.entry.Reservation.{Reservation}
 use Rattle.ax_store.specs.Bytes.{number_at, all_inside}
 use Rattle.ax_store.specs.Reservations.{reaches}
-
 use Rattle.ax_store.specs.Storage.{Storage, at_place, load, entry_of, entered, wrote, with_waiting, dropped}
 use Rattle.ax_isa.specs.declared.cpu.Status.{Status}
 use Rattle.ax_isa.specs.declared.cpu.Status.TheVariants.{Running, Ended, Trapped, Stuck}

@@ -2,7 +2,7 @@
 
 ghost use Rattle.std.specs.Prelude.{◌≡◌, ◌<◌, ◌+◌, ◌%◌, ◌^◌};
 ghost use Rattle.ax_isa.specs.Processor.{processor_of};
-ghost use Rattle.ax_rv.specs.Instructions.{rv_kind, read, displaced};
+ghost use Rattle.ax_rv.specs.Instructions.{IsInstr, rv_kind, read, displaced};
 
 use ax_isa::{Cpu, Effect, Isa};
 use ax_ops::RmwOp;
@@ -91,6 +91,8 @@ fn displaced(address: u64, d: i16) -> u64
 
 impl Isa for RvInstr {
     ghost kind = { rv_kind };
+
+    ghost valid = { IsInstr };
 
     fn effect(&self, cpu: &Cpu) -> Effect {
         match *self {
