@@ -10,4 +10,6 @@ pub mod Acts
 pub mod Pieces
 pub mod Places
 pub mod Reached
-pub mod Lowered
+pub mod Agreement
+pub mod Soundness
+pub mod Marks

@@ -3,3 +3,4 @@ pub mod Agree
 pub mod Lowers
 pub mod Code
 pub mod Sound
+pub mod Rows

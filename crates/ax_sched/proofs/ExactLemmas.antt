@@ -1,6 +1,6 @@
 -- A plan is read exactly where the text is its schedule.
-use Rattle.std.proofs.Common.{◌≡◌, ◌≢◌, ℕ, ◌+◌, ◌<◌, ◌≤◌, ◌^◌, arith, lit<, lit≤, Bool, true, false, List, [], ◌∷◌, ◌++◌, length, get_or, map, flat_map, sum_by, All, AllPairs, codes, Option, Some, None, Result, Ok, Err, IfOk, IfSome, refl, sym, ap, subst, ◌∙◌, inl, inr, append_assoc, append-nil, length-append}
-use Rattle.std.specs.Prelude.{◌==◌, ◌&&◌, ◌||◌, nat_eq, nat_lt, nat_le, option_map, position}
+use Rattle.std.proofs.Common.{◌≡◌, ◌≢◌, ℕ, ◌+◌, ◌<◌, ◌≤◌, ◌^◌, arith, lit<, lit≤, Bool, true, false, List, [], ◌∷◌, ◌++◌, length, get_or, map, sum_by, All, AllPairs, codes, Option, Some, None, Result, Ok, Err, IfOk, IfSome, refl, sym, ap, subst, ◌∙◌, inl, inr, append_assoc, append-nil}
+use Rattle.std.specs.Prelude.{◌==◌, ◌&&◌, ◌||◌, nat_eq, nat_lt, nat_le, option_map}
 use Rattle.std.specs.List.{list_all, slice_split, join_with_byte, position_or_len}
 use Rattle.std.specs.Option.{option_and_then}
 use Rattle.std.specs.Cmp.Lexicographic.{pointwise}
@@ -9,7 +9,7 @@ use Rattle.std.specs.Fmt.{decimal}
 use Rattle.std.proofs.lemmas.Bool.{cases_Bool, and_parts, and_from, ltb-true, lt-ltb, leb-true, le-leb, false_from_ne_true, or_left}
 use Rattle.std.proofs.lemmas.Option.{same_Some}
 use Rattle.std.proofs.lemmas.Slice.Eq.{bytes_eq-Decides}
-use Rattle.std.proofs.lemmas.List.Elements.{All-nil, All-cons, All-head, All-tail, All-append, All-map, All-weaker}
+use Rattle.std.proofs.lemmas.List.Elements.{All-nil, All-cons, All-head, All-tail, All-map, All-weaker}
 use Rattle.std.proofs.lemmas.List.Quantifiers.{position-Some}
 use Rattle.std.proofs.lemmas.List.Splits.{join_with_byte-slice_split}
 use Rattle.std.proofs.lemmas.List.Sums.{position_or_len_is, sum_by-cons}
@@ -20,7 +20,7 @@ use Rattle.ax_sched.specs.Plan.{processor_of, times_of, IsPlan}
 use Rattle.ax_sched.specs.First.{is_letter, is_digit, is_name_byte, is_plain_name, name_at, entry_word, processors_line, item_line, spelling, IsSpelled, IsFirstSchedule}
 use Rattle.ax_sched.specs.Reading.{strip, cut, number_of, function_named, entry_of, entries_from, processors_of, numbers_of, step_of, items_from, planned, plan_of_lines, plan_of, body}
 use Rattle.ax_sched.proofs.NumberLemmas.{number_of_found, number_of_decimal, digits_of_decimal}
-use Rattle.ax_sched.proofs.LineLemmas.{Lacks, Lacks-tested, Lacks-append, Lacks-join, strip_is, strip_again, cut_is, cut_again, split_joined, lines_joined, IsOpen-join, body_of_spelled, spelled_by_body}
+use Rattle.ax_sched.proofs.LineLemmas.{Lacks, Lacks-tested, Lacks-append, Lacks-join, strip_is, cut_is, cut_again, split_joined, lines_joined, IsOpen-join, body_of_spelled, spelled_by_body}
 
 bind_some : {A B : Type 0} (o : Option A) (f : A → Option B) (y : B) → option_and_then f o ≡ Some y → (x : A) × (o ≡ Some x) × (f x ≡ Some y)
 bind_some None f y e = absurd cc

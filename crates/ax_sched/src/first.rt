@@ -21,7 +21,8 @@ const MOST_EVENTS: u64 = 1_000_000;
 ///
 /// The text is `processors` and 1 to 8 plain names of functions, each after one blank and an `@`, and
 /// then lines `step P N`, with the processor P counted from 0 and all N together at most 1,000,000.
-/// The last line feed may be absent. The only error is want of memory.
+/// The last line feed may be absent. `functions` are the names of the module's functions in order,
+/// and a processor's entry is such a function's position. The only error is want of memory.
 pub fn read_first_schedule(
     alloc: Global,
     bytes: &[u8],
@@ -145,8 +146,8 @@ fn read_processors(
     read_entries(alloc, names, functions)
 }
 
-#[tactic(auto, unfolding(crate::specs::Reading::step_of))]
 /// The processor and the number of a line `step P N`.
+#[tactic(auto, unfolding(crate::specs::Reading::step_of))]
 fn step_of(line: &[u8]) -> Option<(u64, u64)>
     ensures { result ≡ step_of line.now }
 {

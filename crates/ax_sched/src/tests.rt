@@ -1,12 +1,18 @@
+ghost use Rattle.std.specs.Prelude.{◌≢◌, ◌^◌, ◌<◌, length, AllPairs, IfOk};
+
 use super::*;
 use std::alloc::{AllocError, Global};
 use std::test::Fail;
 
-fn names(alloc: Global) -> Result<Vec<Name>, AllocError> {
+fn names(alloc: Global) -> Result<Vec<Name>, AllocError>
+    ensures few { IfOk result (λ v. length v.items < 2 ^ 32) }
+    ensures distinct { IfOk result (λ v. AllPairs (λ x y. x ≢ y) v.items) }
+{
     let mut names = Vec::new(alloc);
-    for text in [b"f".as_slice(), b"g", b"h_2", b"2", b"worker"] {
-        names.push(Name::of(text.to_vec(alloc)?))?;
-    }
+    names.push(Name::of(b"f".to_vec(alloc)?))?;
+    names.push(Name::of(b"g".to_vec(alloc)?))?;
+    names.push(Name::of(b"2".to_vec(alloc)?))?;
+    names.push(Name::of(b"worker_2".to_vec(alloc)?))?;
     Ok(names)
 }
 
@@ -30,8 +36,8 @@ fn schedules_are_plans(rt: HostRuntime) -> Result<(), Fail> {
         (b"processors @f\n", &[0], &[]),
         (b"processors @f", &[0], &[]),
         (
-            b"processors @worker @h_2 @worker\nstep 2 0\nstep 0 7",
-            &[4, 2, 4],
+            b"processors @worker_2 @g @worker_2\nstep 2 0\nstep 0 7",
+            &[3, 1, 3],
             &[Item::Step { p: 2, n: 0 }, Item::Step { p: 0, n: 7 }],
         ),
         (

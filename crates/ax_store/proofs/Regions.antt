@@ -12,6 +12,15 @@ use Rattle.ax_store.specs.Regions.{in_lock_table, in_globals, frame_end, in_fram
 pub table_not_globals : (end a : ℕ) → in_lock_table a ≡ true → in_globals end a ≡ false
 table_not_globals end a h = grind (arith, nat_tests)
 
+pub globals_not_table : (end a : ℕ) → in_globals end a ≡ true → in_lock_table a ≡ false
+globals_not_table end a h = grind (arith, nat_tests)
+
+pub table_not_frame : (p size a : ℕ) → size ≤ 131072 → in_lock_table a ≡ true → in_frame p size a ≡ false
+table_not_frame p size a h t = grind (arith, nat_tests)
+
+pub globals_not_frame : (end p size a : ℕ) → end ≤ 1114112 → size ≤ 131072 → in_globals end a ≡ true → in_frame p size a ≡ false
+globals_not_frame end p size a g h t = grind (arith, nat_tests)
+
 pub frame_not_table : (p size a : ℕ) → size ≤ 131072 → in_frame p size a ≡ true → in_lock_table a ≡ false
 frame_not_table p size a h t = grind (arith, nat_tests)
 

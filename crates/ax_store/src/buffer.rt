@@ -1,8 +1,7 @@
 // The stores of one processor that wait, and room for more.
-ghost use Rattle.std.specs.Prelude.{◌≡◌, ◌+◌, ◌-◌, ◌<◌, ◌≤◌, ◌&&◌, ℕ, List, [], ◌∷◌, ◌++◌, Bool, IsTrue, IsSome, OnOk, OnErr, IfOk, length, nat_lt, slice_get, slice_index_or, Some, None, map};
+ghost use Rattle.std.specs.Prelude.{◌≡◌, ◌+◌, ◌<◌, ◌≤◌, ◌&&◌, ℕ, [], IsTrue, IsSome, OnOk, OnErr, length, nat_lt, slice_get, slice_index_or, None};
 ghost use Rattle.std.specs.Option.{option_or};
-ghost use Rattle.ax_store.specs.declared.entry.Entry.{Entry};
-ghost use Rattle.ax_store.specs.Buffers.{BufferState, pushed, popped, with_room, byte_from, latest};
+ghost use Rattle.ax_store.specs.Buffers.{pushed, popped, with_room, byte_from, latest};
 
 use crate::entry::Entry;
 use crate::memory::byte_of_number;

@@ -1,8 +1,7 @@
 // Reservations, at most one for each processor.
-ghost use Rattle.std.specs.Prelude.{◌≡◌, ◌+◌, ◌-◌, ◌<◌, ◌≤◌, List, [], ◌∷◌, Bool, length, slice_set, slice_index_or, Some, None, IfOk, replicate};
-ghost use Rattle.ax_store.specs.declared.entry.Reservation.{Reservation};
+ghost use Rattle.std.specs.Prelude.{◌≡◌, ◌<◌, length, slice_set, None, IfOk, replicate};
 ghost use Rattle.ax_store.specs.Links.{link_of};
-ghost use Rattle.ax_store.specs.Reservations.{left_of, reaches, stands_for};
+ghost use Rattle.ax_store.specs.Reservations.{left_of, stands_for};
 
 use crate::entry::Reservation;
 use std::alloc::{AllocError, Global};

@@ -1,5 +1,5 @@
 // Memory: a list of regions.
-ghost use Rattle.std.specs.Prelude.{◌≡◌, ◌↔◌, ◌+◌, ◌-◌, ◌*◌, ◌<◌, ◌≤◌, ◌^◌, ℕ, List, [], IsTrue, length, slice_index, slice_index_or, slice_set, IfOk, All, replicate, map};
+ghost use Rattle.std.specs.Prelude.{◌≡◌, ◌↔◌, ◌*◌, ◌<◌, ◌≤◌, ◌^◌, IsTrue, length, slice_index_or, slice_set, IfOk, All, replicate};
 ghost use Rattle.ax_store.specs.Bytes.{all_inside, byte_of, number_at, put, set_inside};
 ghost use Rattle.ax_store.specs.Places.{byte_at, bytes_set, is_inside, part_of, place_in, regions_of};
 ghost use Rattle.ax_store.specs.Regions.{IsFrameSize, IsGlobalsEnd, in_regions};

@@ -1,12 +1,10 @@
 // The storage of the machines.
-ghost use Rattle.std.specs.Prelude.{drop, ◌↔◌, ◌≡◌, ◌≢◌, ◌+◌, ◌*◌, ◌^◌, ◌<◌, ◌≤◌, ℕ, List, [], Bool, true, false, IsTrue, OnOk, OnErr, Option, Some, None, All, length, if◌then◌else◌, IfOk, replicate, slice_index_or};
-ghost use Rattle.ax_store.specs.declared.entry.Entry.{Entry};
-ghost use Rattle.ax_store.specs.declared.entry.Reservation.{Reservation};
+ghost use Rattle.std.specs.Prelude.{drop, is_some, ◌≡◌, ◌*◌, ◌+◌, ◌^◌, ◌<◌, ◌≤◌, ℕ, true, false, OnOk, OnErr, IfOk, Option, None, All, length, replicate, slice_index_or};
 ghost use Rattle.ax_store.specs.Buffers.{latest, none};
 ghost use Rattle.ax_store.specs.Bytes.{IsWidth, all_inside, cut, number_at};
 ghost use Rattle.ax_store.specs.Regions.{IsFrameSize, IsGlobalsEnd, IsProcessorCount};
 ghost use Rattle.ax_store.specs.Storage.{byte_put, drained, dropped, entered, flushed, linked_at, load, may_pair, oldest, pair_stored, replaced, started, stored, with_linked, with_waiting, wrote};
-ghost use Rattle.ax_store.specs.Store.{HasRoom, byte_over, Kept, StoreState, processors, reserved, spare_of, spared, storage_of};
+ghost use Rattle.ax_store.specs.Store.{HasRoom, byte_over, Kept, processors, reserved, spare_of, spared, storage_of};
 
 use crate::buffer::Buffer;
 use crate::entry::{Entry, Reservation};
@@ -140,7 +138,7 @@ impl Store {
     #[tactic(auto, unfolding(crate::specs::Store::storage_of, crate::specs::Store::processors))]
     pub fn linked(&self, p: u8) -> bool
         requires { p < processors self.now }
-        ensures { IsTrue result ↔ ((storage_of self.now).linked p ≢ None) }
+        ensures { result ≡ is_some ((storage_of self.now).linked p) }
     {
         self.links.get(p as usize).is_some()
     }

@@ -1,0 +1,4 @@
+pub mod Answers
+pub mod Writing
+pub mod Report
+pub mod Serve
