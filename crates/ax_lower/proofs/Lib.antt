@@ -13,3 +13,4 @@ pub mod Reached
 pub mod Agreement
 pub mod Soundness
 pub mod Marks
+pub mod Emitted
