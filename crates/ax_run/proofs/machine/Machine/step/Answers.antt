@@ -1,0 +1,17 @@
+use Rattle.std.proofs.Common.{◌<◌, length, refl, arith}
+use Rattle.std.proofs.lemmas.Bool.{false≢true}
+use Rattle.ax_run.proofs.Telling.{pass_tells, count_tells}
+use Rattle.ax_run.proofs.machine.Machine.step.Goals as goal
+
+pub returns-then-is_running-clause-tells : goal.returns-then-is_running-clause-tells
+returns-then-is_running-clause-tells c =
+    λ start told.
+    let r = c.args.self.now in
+    let ready = c.tag-tag.ensures.ready in
+    let known = c.requires.processor in
+    let cells : c.args.p < length r.retired = omega (arith, known, ready.few, ready.cells) in
+    count_tells start r c.args.p known told c.count.new.self c.advance-outcome.new.self c.advance-outcome.result c.tag-tag.result cells c.advance-outcome.ensures c.tag-tag.ensures.tag (c.if-is_running.ensures.0 refl) c.count.ensures
+
+pub returns-else-is_running-clause-tells : goal.returns-else-is_running-clause-tells
+returns-else-is_running-clause-tells c =
+    λ start told. pass_tells start c.args.self.now c.args.p c.requires.processor told c.pass.new.self (λ h. false≢true (c.if-is_running.ensures.1 h)) c.pass.ensures

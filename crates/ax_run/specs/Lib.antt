@@ -1,0 +1,5 @@
+pub mod MachineState
+pub mod Machine
+pub mod Start
+pub mod RunState
+pub mod Run

@@ -1,0 +1,174 @@
+//! Runs of lowered programs.
+
+ghost use Rattle.std.specs.Prelude.{◌≡◌, ◌<◌, ◌≤◌, ◌+◌, ◌*◌, IfOk, Some, false, length, true};
+ghost use Rattle.std.specs.List.{sum_by};
+ghost use Rattle.ax_store.specs.Bytes.{number_at};
+ghost use Rattle.ax_source.specs.Machine.{HasElement};
+ghost use Rattle.ax_source.specs.WellFormed.{IsFirst, IsWithinLimits};
+ghost use Rattle.ax_sched.specs.Plan.{IsPlan, times_of};
+ghost use Rattle.ax_lower.specs.Layout.{address_of};
+ghost use Rattle.ax_lower.specs.Sound.{IsSound};
+ghost use Rattle.ax_run.specs.Run.{HasRun, IsOf, Reads};
+
+use crate::machine::Machine;
+use crate::start::start;
+use ax_isa::{Event, Status};
+use ax_lower::Lowered;
+use ax_ops::SourceEvent;
+use ax_sched::{Item, Plan};
+use ax_source::First;
+use std::alloc::{AllocError, Global};
+use std::marker::Model;
+
+/// A run of a lowered program over the events of a plan: the processors and the storage of its
+/// machine, its outputs, and the source events that the tags of its image give.
+#[derive(Drop)]
+pub struct Run<'a> {
+    program: &'a First,
+    plan: &'a Plan,
+    machine: Machine<'a>,
+    ended: bool,
+}
+
+impl<'a> Model for Run<'a> {
+    ghost use Rattle.ax_run.specs.RunState.{RunState};
+
+    ghost Value = { RunState };
+
+    ghost use Rattle.ax_run.specs.Run.{IsSoundRun};
+
+    ghost view = { λ r. record { program = r.program.now; plan = r.plan.now; machine = r.machine; ended = r.ended } };
+
+    ghost invariant = { λ r. IsSoundRun (record { program = r.program.now; plan = r.plan.now; machine = r.machine; ended = r.ended }) };
+}
+
+/// How many events directives make.
+fn total(items: &[Item]) -> u64
+    requires { sum_by times_of items.now ≤ 1000000 }
+    ensures { result ≡ sum_by times_of items.now }
+{
+    items
+        .iter()
+        .map(|item| match *item {
+            Item::Step { n, .. } => n,
+        })
+        .sum()
+}
+
+/// A run of a lowered program before its first event. It takes all memory of the run, and fails
+/// only where there is none.
+pub fn prepare<'a>(
+    alloc: Global,
+    l: &'a Lowered,
+    program: &'a First,
+    plan: &'a Plan,
+) -> Result<Run<'a>, AllocError>
+    requires program { IsFirst program.now }
+    requires limits { IsWithinLimits program.now }
+    requires sound { IsSound (length program.now.functions) l.now.image }
+    requires plan { IsPlan (length program.now.functions) plan.now }
+    ensures of { IfOk result (IsOf l.entry.now.image program.entry.now plan.entry.now) }
+    ensures begins { IfOk result (λ r. r.ended ≡ false) }
+{
+    let events = total(plan.items.as_slice());
+    let machine = start(alloc, &l.image, program, plan.entries.as_slice(), events)?;
+    Ok(Run {
+        program,
+        plan,
+        machine,
+        ended: false,
+    })
+}
+
+impl<'a> Run<'a> {
+    /// Runs the plan to its end. It takes no memory, and a second time changes nothing.
+    pub fn go(&mut self)
+        ensures ran { HasRun self.new }
+        ensures ended { self.new.ended ≡ true }
+        ensures again { self.old.ended ≡ true → self.new ≡ self.old }
+        ensures kept { IsOf self.old.machine.image self.old.program self.old.plan self.new }
+    {
+        if self.ended {
+            return;
+        }
+        self.machine.perform(self.plan.items.as_slice());
+        self.ended = true;
+    }
+
+    /// The numbers that processors put out, each with its processor, in order.
+    pub fn outputs(&self) -> &[(u8, u64)]
+        ensures { Reads self.now (λ m. m.outputs) result.now }
+    {
+        self.machine.outputs.as_slice()
+    }
+
+    /// The number of an element of a global, which has one, its element 0.
+    pub fn object(&self, g: u32, i: u64) -> Option<u128>
+        requires { HasElement self.now.program g i }
+        ensures { Reads self.now (λ m. Some (number_at m.noted.storage.mem (address_of g) 8)) result }
+    {
+        Some(self.machine.store.load(0, 0x1_0000 + 8 * g as u64, 8))
+    }
+
+    /// What a processor is doing.
+    pub fn status(&self, p: u8) -> Status
+        requires { p < length self.now.machine.processors }
+        ensures { Reads self.now (λ m. (m.processors p).status) result }
+    {
+        self.machine.cpus[p as usize].status
+    }
+
+    /// The place of a processor's next instruction, counted from 1; 0 for one that has ended.
+    pub fn place(&self, p: u8) -> u32
+        requires { p < length self.now.machine.processors }
+        ensures { Reads self.now (λ m. (m.processors p).place) result }
+    {
+        self.machine.cpus[p as usize].place
+    }
+
+    /// How many Steps a processor made while it was running.
+    pub fn retired(&self, p: u8) -> u64
+        requires { p < length self.now.machine.processors }
+        ensures { Reads self.now (λ m. m.retired p) result }
+    {
+        self.machine.retired(p)
+    }
+
+    /// How many processors there are.
+    pub fn processors(&self) -> u8
+        ensures number { result ≡ length self.now.plan.entries }
+        ensures all { result ≡ length self.now.machine.processors }
+    {
+        self.machine.cpus.len() as u8
+    }
+
+    /// How many stores of a processor wait.
+    pub fn pending(&self, p: u8) -> u64
+        requires { p < length self.now.machine.processors }
+        ensures { Reads self.now (λ m. length (m.noted.storage.waiting p)) result }
+    {
+        self.machine.store.pending(p) as u64
+    }
+
+    /// The word of lock i, of 256.
+    pub fn lock_word(&self, i: u32) -> u32
+        requires { i < 256 }
+        ensures { Reads self.now (λ m. number_at m.noted.storage.mem (32768 + 64 * i) 4) result }
+    {
+        self.machine.store.load(0, 0x8000 + 64 * i as u64, 4) as u32
+    }
+
+    /// The source events that explain the run.
+    pub fn source_schedule(&self) -> &[SourceEvent]
+        ensures { result.now ≡ self.now.machine.sources }
+    {
+        self.machine.sources.as_slice()
+    }
+
+    /// The events of the run.
+    pub fn machine_schedule(&self) -> &[Event]
+        ensures { result.now ≡ self.now.machine.events }
+    {
+        self.machine.events.as_slice()
+    }
+}

@@ -1,0 +1,110 @@
+//! What a run begins with: processors, storage, and room for its events.
+
+ghost use Rattle.std.specs.Prelude.{◌≡◌, ◌<◌, ◌≤◌, ◌+◌, ◌*◌, ◌/◌, All, IfOk, [], false, length};
+ghost use Rattle.ax_store.specs.Regions.{IsFrameSize, IsProcessorCount};
+ghost use Rattle.ax_store.specs.Store.{processors, storage_of};
+ghost use Rattle.ax_source.specs.WellFormed.{AreEntries, IsFirst, IsWithinLimits};
+ghost use Rattle.ax_lower.specs.Lowers.{start_of};
+ghost use Rattle.ax_lower.specs.Sound.{IsSound};
+ghost use Rattle.ax_run.specs.Machine.{Tells};
+ghost use Rattle.ax_run.specs.Start.{cpus_from, first_cpu, frames_for, storage_with};
+
+use crate::machine::Machine;
+use ax_isa::{Cpu, Image, Status};
+use ax_rv::RvInstr;
+use ax_source::First;
+use ax_store::Store;
+use std::alloc::{AllocError, Global};
+
+/// Processor p at a place, with its stack pointer.
+fn first_cpu(p: u64, place: u32) -> Cpu
+    requires { p < 8 }
+    ensures { result ≡ first_cpu p place }
+{
+    let mut regs = [0; 32];
+    regs[2] = 0x100_0000 + 0x2_0000 * p + 0x1_fff8;
+    Cpu {
+        regs,
+        place,
+        status: Status::Running,
+    }
+}
+
+/// A processor for each entry, at the place of its function.
+fn cpus(alloc: Global, places: &[u32], entries: &[u32]) -> Result<Vec<Cpu>, AllocError>
+    requires few { length entries.now ≤ 8 }
+    requires known { All (λ f. f < length places.now) entries.now }
+    ensures { IfOk result (λ v. v.items ≡ cpus_from places.now 0 entries.now) }
+{
+    let mut cpus = Vec::with_capacity(alloc, entries.len())?;
+    for (p, f) in entries.iter().enumerate() {
+        cpus.push(first_cpu(p as u64, places[*f as usize]))?;
+    }
+    Ok(cpus)
+}
+
+/// The size of the frame of each entry.
+fn frames(alloc: Global, sizes: &[u64], entries: &[u32]) -> Result<Vec<u64>, AllocError>
+    requires { All (λ f. f < length sizes.now) entries.now }
+    ensures { IfOk result (λ v. v.items ≡ frames_for sizes.now entries.now) }
+{
+    let mut frames = Vec::with_capacity(alloc, entries.len())?;
+    for f in entries {
+        frames.push(sizes[*f as usize])?;
+    }
+    Ok(frames)
+}
+
+/// A storage with frames of these sizes, where the globals hold these numbers.
+fn store(alloc: Global, globals: &[u64], frames: &[u64]) -> Result<Store, AllocError>
+    requires globals { length globals.now ≤ 256 }
+    requires sizes { All IsFrameSize frames.now }
+    requires count { IsProcessorCount (length frames.now) }
+    ensures storage { IfOk result (λ s. storage_of s ≡ storage_with (65536 + (8 * length globals.now + 15) / 16 * 16) frames.now globals.now (length globals.now)) }
+    ensures unbuffered { IfOk result (λ s. s.buffered ≡ false) }
+    ensures processors { IfOk result (λ s. processors s ≡ length frames.now) }
+{
+    let end = 0x1_0000 + (8 * globals.len() as u64 + 15) / 16 * 16;
+    let mut store = Store::new(alloc, end, frames, false)?;
+    for (g, number) in globals.iter().enumerate() {
+        store.store(0, 0x1_0000 + 8 * g as u64, 8, *number as u128);
+    }
+    Ok(store)
+}
+
+/// The machine of an image of a program before its first event, with room for so many events.
+pub(crate) fn start<'a>(
+    alloc: Global,
+    image: &'a Image<RvInstr>,
+    program: &First,
+    entries: &[u32],
+    events: u64,
+) -> Result<Machine<'a>, AllocError>
+    requires sound { IsSound (length program.now.functions) image.now }
+    requires program { IsFirst program.now }
+    requires limits { IsWithinLimits program.now }
+    requires entries { AreEntries program.now entries.now }
+    requires events { events ≤ 1000000 }
+    ensures tells { IfOk result (λ m. Tells (start_of image.entry.now program.now entries.now) m) }
+    ensures image { IfOk result (λ m. m.image ≡ image.entry.now) }
+    ensures events { IfOk result (λ m. m.events ≡ []) }
+    ensures room { IfOk result (λ m. m.room ≡ events) }
+    ensures count { IfOk result (λ m. length m.processors ≡ length entries.now) }
+{
+    let frames = frames(alloc, image.frames.as_slice(), entries)?;
+    let cpus = cpus(alloc, image.entries.as_slice(), entries)?;
+    let store = store(alloc, program.globals.as_slice(), frames.as_slice())?;
+    let outputs = Vec::with_capacity(alloc, events as usize)?;
+    let sources = Vec::with_capacity(alloc, events as usize)?;
+    let made = Vec::with_capacity(alloc, events as usize)?;
+    Ok(Machine {
+        image,
+        cpus,
+        retired: [0; 8],
+        store,
+        outputs,
+        sources,
+        events: made,
+        room: events,
+    })
+}
