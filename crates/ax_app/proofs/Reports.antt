@@ -1,9 +1,15 @@
 -- Parts of a report, line by line.
-use Rattle.std.proofs.Common.{◌≡◌, ℕ, zero, suc, ◌+◌, ◌-◌, ◌*◌, ◌<◌, ◌≤◌, List, [], ◌∷◌, ◌++◌, length, refl, sym, ap, ◌∙◌, subst, arith}
-use Rattle.std.specs.Prelude.{drop, slice_index_or}
+use Rattle.std.proofs.Common.{◌≡◌, ℕ, zero, suc, ◌+◌, ◌-◌, ◌*◌, ◌<◌, ◌≤◌, List, [], ◌∷◌, ◌++◌, length, refl, sym, ap, ◌∙◌, subst, arith, append_assoc}
+use Rattle.std.specs.Prelude.{drop, slice_index_or, Result, Ok, Err, OnOk}
+use Rattle.ax_isa.specs.declared.images.Image.{Image}
+use Rattle.ax_rv.specs.declared.instructions.RvInstr.{RvInstr}
+use Rattle.ax_source.specs.declared.first.First.{First}
+use Rattle.ax_sched.specs.declared.plan.Plan.{Plan}
+use Rattle.ax_lower.specs.Lowers.{run_of, explained_by}
+use Rattle.ax_run.specs.Run.{RunState, IsOf, HasRun, events_of}
 use Rattle.ax_isa.specs.Run.{Machine}
 use Rattle.ax_print.specs.Report.{object_line, processor_line, lock_line}
-use Rattle.ax_app.specs.Report.{number_of, lock_of, object_part, processor_part, lock_part}
+use Rattle.ax_app.specs.Report.{number_of, lock_of, object_part, processor_part, lock_part, run_report}
 
 pub object_next : (m : Machine) (g i : ℕ) (names : List (List ℕ)) (d : List ℕ) → i < length names → object_part m g (drop i names) ≡ object_line (slice_index_or names i d) 0 (number_of m g) ++ object_part m (g + 1) (drop (i + 1) names)
 object_next m g i [] d h = absurd (omega (arith, h))
@@ -31,3 +37,22 @@ lock_next m i n h = (let e : n - i ≡ suc (n - (i + 1)) = omega (arith, h) in a
 pub lock_none : (m : Machine) (i n : ℕ) → n ≤ i → lock_part m i (n - i) ≡ []
 unfolding lock_part
 lock_none m i n h = (let e : n - i ≡ 0 = omega (arith, h) in ap (lock_part m i) e)
+
+-- what is appended to a text, and then more
+pub more : (x y z a b : List ℕ) → y ≡ x ++ a → z ≡ y ++ b → z ≡ x ++ (a ++ b)
+more x y z a b e f = f ∙ ap (λ l. l ++ b) e ∙ append_assoc x a b
+
+pub on_ok : {V E : Type 0} (r : Result V E) (P Q : Type 0) → (P → Q) → OnOk r P → OnOk r Q
+on_ok (Ok v) P Q f h = f h
+on_ok (Err e) P Q f h = h
+
+-- a run's report once the run has gone
+pub gone : (r : RunState) (image : Image RvInstr) (program : First) (plan : Plan) (globals : List (List ℕ)) → IsOf image program plan r → HasRun r
+    → run_report globals (length r.plan.entries) (run_of r.machine.image r.program r.plan.entries (events_of r.plan)) r.machine.sources r.machine.events
+    ≡ run_report globals (length plan.entries) (run_of image program plan.entries (events_of plan)) (explained_by image program plan.entries (events_of plan)) (events_of plan)
+gone r image program plan globals of ran =
+    let m = run_of r.machine.image r.program r.plan.entries (events_of r.plan) in
+    ap (λ es. run_report globals (length r.plan.entries) m r.machine.sources es) ran.machine_schedule ∙ ap (λ es. run_report globals (length r.plan.entries) m es (events_of r.plan)) ran.source_schedule
+    ∙ ap (λ i. run_report globals (length r.plan.entries) (run_of i r.program r.plan.entries (events_of r.plan)) (explained_by i r.program r.plan.entries (events_of r.plan)) (events_of r.plan)) of.image_is
+    ∙ ap (λ p. run_report globals (length r.plan.entries) (run_of image p r.plan.entries (events_of r.plan)) (explained_by image p r.plan.entries (events_of r.plan)) (events_of r.plan)) of.program_is
+    ∙ ap (λ (q : Plan). run_report globals (length q.entries) (run_of image program q.entries (events_of q)) (explained_by image program q.entries (events_of q)) (events_of q)) of.plan_is

@@ -71,6 +71,139 @@ machine S0*500
 end
 ";
 
+const PASSED_BY: &str = "report
+target rv64
+processors 2
+events 403
+output 1 1
+output 1 2
+output 0 0
+output 0 3
+object @x 0 4
+processor 0 ended 0 retired 13 pending 0
+processor 1 ended 0 retired 13 pending 0
+source A0 A1*5 A0*4
+machine S0*3 S1*200 S0*200
+end
+";
+
+const IN_TURNS: &str = "report
+target rv64
+processors 2
+events 26
+output 0 0
+output 1 1
+output 0 2
+output 1 3
+object @x 0 4
+processor 0 ended 0 retired 13 pending 0
+processor 1 ended 0 retired 13 pending 0
+source A0*2 A1*2 A0*3 A1*3
+machine S0*6 S1*6 S0*7 S1*7
+end
+";
+
+const EACH_ORDER: &str = "@a = global i64 7, align 8
+@b = global i64 0, align 8
+declare void @out(i64)
+define void @f() {
+  %0 = load atomic i64, ptr @a monotonic, align 8
+  store atomic i64 %0, ptr @b release, align 8
+  %2 = load atomic i64, ptr @b acquire, align 8
+  call void @out(i64 %2)
+  store atomic i64 3, ptr @a seq_cst, align 8
+  %9 = load atomic i64, ptr @a seq_cst, align 8
+  call void @out(i64 %9)
+  store atomic i64 18446744073709551615, ptr @b monotonic, align 8
+  ret void
+}
+define void @g() {
+  %0 = atomicrmw add ptr @a, i64 1 monotonic, align 8
+  %1 = atomicrmw add ptr @a, i64 1 acquire, align 8
+  %2 = atomicrmw add ptr @a, i64 1 release, align 8
+  %3 = atomicrmw add ptr @a, i64 1 acq_rel, align 8
+  ret void
+}
+";
+
+const EACH_ROW: &str = "# target rv64
+# entry @f 1 72
+# entry @g 29 40
+# site 0 0 1 3
+# site 0 1 4 7
+# site 0 2 8 11
+# site 0 3 12 13
+# site 0 4 14 17
+# site 0 5 18 22
+# site 0 6 23 24
+# site 0 7 25 27
+# site 0 8 28 28
+# site 1 0 29 32
+# site 1 1 33 36
+# site 1 2 37 40
+# site 1 3 41 44
+# site 1 4 45 45
+.L1: li t0, 65536
+.L2: ld t1, 0(t0) # act
+.L3: sd t1, -8(sp)
+.L4: li t0, 65544
+.L5: ld t1, -8(sp)
+.L6: fence rw, w
+.L7: sd t1, 0(t0) # act
+.L8: li t0, 65544
+.L9: ld t1, 0(t0) # act
+.L10: fence r, rw
+.L11: sd t1, -24(sp)
+.L12: ld a0, -24(sp)
+.L13: ecall # act
+.L14: li t0, 65536
+.L15: li t1, 3
+.L16: fence rw, w
+.L17: sd t1, 0(t0) # act
+.L18: li t0, 65536
+.L19: fence rw, rw
+.L20: ld t1, 0(t0) # act
+.L21: fence r, rw
+.L22: sd t1, -48(sp)
+.L23: ld a0, -48(sp)
+.L24: ecall # act
+.L25: li t0, 65544
+.L26: li t1, 18446744073709551615
+.L27: sd t1, 0(t0) # act
+.L28: ret # act
+.L29: li t0, 65536
+.L30: li t1, 1
+.L31: amoadd.d t1, t1, (t0) # act
+.L32: sd t1, -8(sp)
+.L33: li t0, 65536
+.L34: li t1, 1
+.L35: amoadd.d.aq t1, t1, (t0) # act
+.L36: sd t1, -16(sp)
+.L37: li t0, 65536
+.L38: li t1, 1
+.L39: amoadd.d.rl t1, t1, (t0) # act
+.L40: sd t1, -24(sp)
+.L41: li t0, 65536
+.L42: li t1, 1
+.L43: amoadd.d.aqrl t1, t1, (t0) # act
+.L44: sd t1, -32(sp)
+.L45: ret # act
+# end
+report
+target rv64
+processors 2
+events 45
+output 0 7
+output 0 3
+object @a 0 7
+object @b 0 18446744073709551615
+processor 0 ended 0 retired 28 pending 0
+processor 1 ended 0 retired 17 pending 0
+source A0*9 A1*5
+machine S0*28 S1*17
+end
+";
+
 fn bytes_of(alloc: Global, texts: &[&str]) -> Result<Vec<u8>, AllocError> {
     let mut bytes = Vec::new(alloc);
     for text in texts {
@@ -123,6 +256,14 @@ fn runs_of_two_additions(rt: HostRuntime) -> Result<(), Fail> {
         ("processors @f\nstep 0 200", REPORT),
         ("processors @f\n", NO_EVENTS),
         ("processors @f\nstep 0 200\nstep 0 300\n", AFTER_THE_END),
+        (
+            "processors @f @f\nstep 0 3\nstep 1 200\nstep 0 200\n",
+            PASSED_BY,
+        ),
+        (
+            "processors @f @f\nstep 0 6\nstep 1 6\nstep 0 7\nstep 1 7\n",
+            IN_TURNS,
+        ),
     ];
     for (schedule, report) in table {
         let (done, written) = served(alloc, "run rv64 m s", Some(TWO_ADDITIONS), schedule, None)?;
@@ -174,5 +315,14 @@ fn refusals(rt: HostRuntime) -> Result<(), Fail> {
     let (done, written) = served(alloc, "run rv64 m s", Some(TWO_ADDITIONS), plain, Some(0))?;
     assert_eq!(rt; done.code(), 75);
     assert!(rt; written.as_slice() == b"# t".as_slice());
+    Ok(())
+}
+
+#[test]
+fn each_order_has_its_row(rt: HostRuntime) -> Result<(), Fail> {
+    let schedule = "processors @f @g\nstep 0 28\nstep 1 17\n";
+    let (done, written) = served(rt.alloc(), "run rv64 m s", Some(EACH_ORDER), schedule, None)?;
+    assert_eq!(rt; done.code(), 0);
+    assert!(rt; written.as_slice() == EACH_ROW.as_bytes());
     Ok(())
 }

@@ -8,4 +8,4 @@ use Rattle.ax_app.proofs.report.push_processors.Given as goal
 -- what was appended and what is left is the whole
 abbrev pub invariant-loop-p : goal.invariant-loop-p
 invariant-loop-p l =
-    (m : Machine) → Shows l.run.now.machine m → string_bytes l.out ++ processor_part m l.p (l.p-end - l.p) ≡ string_bytes l.initial.out ++ processor_part m 0 l.p-end
+    (m : Machine) → Shows l.run.machine m → string_bytes l.out ++ processor_part m l.p (l.p-end - l.p) ≡ string_bytes l.initial.out ++ processor_part m 0 l.p-end
