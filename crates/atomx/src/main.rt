@@ -3,9 +3,8 @@
 
 use ax_app::serve;
 use ax_io::{HostFiles, HostSink};
-use std::env;
-use std::io;
 use std::process::ExitCode;
+use std::{env, io};
 
 /// The status where a word is no UTF-8; nothing is written then.
 const NO_TEXT: u8 = 70;

@@ -12,7 +12,7 @@ use Rattle.ax_sched.specs.First.{IsFirstSchedule}
 use Rattle.ax_lower.specs.Lowers.{Lowers, NeverIdles, run_of, explained_by}
 use Rattle.ax_lower.specs.Rows.{HasRows}
 use Rattle.ax_print.specs.Assembly.{assembly_text}
-use Rattle.ax_run.specs.Events.{plan_events}
+use Rattle.ax_run.specs.Run.{events_of}
 use Rattle.ax_app.specs.declared.done.Done.{Done}
 use Rattle.ax_app.specs.declared.verdict.Part.{Part}
 use Rattle.ax_app.specs.declared.verdict.Part.TheVariants.{Module, Schedule}
@@ -33,7 +33,7 @@ pub record IsTextOf (source : FirstModule) (plan : Plan) (text : List ℕ) : Typ
   pub rows : HasRows image source.program
   pub whole :
       text ≡ assembly_text source.functions image
-      ++ run_report source.globals 256 (length plan.entries) (run_of image source.program plan.entries (plan_events plan)) (explained_by image source.program plan.entries (plan_events plan)) (plan_events plan)
+      ++ run_report source.globals (length plan.entries) (run_of image source.program plan.entries (events_of plan)) (explained_by image source.program plan.entries (events_of plan)) (events_of plan)
 
 -- THE HEADLINE: the text of the module and of the plan that the files' bytes spell
 pub record IsRunText (module_bytes schedule_bytes text : List ℕ) : Type 0 where
@@ -70,6 +70,9 @@ pub record Reading : Type 0 where
   pub faults_before : ℕ
   pub faults : ℕ
   pub taken : ℕ
+
+abbrev pub reading : (List ℕ → Option (List ℕ)) → List (List ℕ) → List (List ℕ) → ℕ → ℕ → ℕ → Reading
+reading held asked_before asked faults_before faults taken = record { held = held; asked_before = asked_before; asked = asked; faults_before = faults_before; faults = faults; taken = taken }
 
 -- the names that joined those asked for are the first of the command's file words
 abbrev pub HasAsked : Reading → List (List ℕ) → Type 0

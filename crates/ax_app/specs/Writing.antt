@@ -46,6 +46,9 @@ pub record Writing : Type 0 where
   pub faults_before : ℕ
   pub faults : ℕ
 
+abbrev pub writing : Option (List ℕ) → Option (List ℕ) → ℕ → ℕ → Writing
+writing written_before written faults_before faults = record { written_before = written_before; written = written; faults_before = faults_before; faults = faults }
+
 -- the bytes were written whole, with the answer; or their writing failed, after the first of them
 abbrev pub Writes : Writing → List ℕ → Done → Done → Type 0
 Writes w bytes answer got =

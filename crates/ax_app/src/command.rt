@@ -9,9 +9,7 @@ pub(crate) fn run_command(words: &[String]) -> Option<(&str, &str)>
     ensures { option_map (λ x. (x.0.now, x.1.now)) result ≡ run_form (map string_bytes words.now) }
 {
     match words {
-        [verb, target, module, schedule]
-            if verb.as_str() == "run" && target.as_str() == "rv64" =>
-        {
+        [verb, target, module, schedule] if verb.as_str() == "run" && target.as_str() == "rv64" => {
             Some((module.as_str(), schedule.as_str()))
         }
         _ => None,

@@ -1,57 +1,68 @@
 //! The checks of a command in their order, up to its text.
 
-ghost use Rattle.std.specs.Prelude.{◌≡◌, ◌≤◌, ◌∷◌, ◌++◌, [], ℕ, List, map, Option, Some, None, length, IfOk, OnOk, MatchResult};
+ghost use Rattle.std.specs.Prelude.{◌≡◌, ◌≤◌, ℕ, List, map, MatchResult, Some, None};
 ghost use Rattle.std.specs.String.{string_bytes};
 ghost use Rattle.ax_app.specs.Answers.{run_form};
-ghost use Rattle.ax_app.specs.Serve.{Reading, CauseOf, limit_of};
+ghost use Rattle.ax_app.specs.Serve.{reading, CauseOf, limit_of};
+ghost use Rattle.ax_app.specs.Reads.{ReadWhole, ReadFails};
 
 use crate::command::run_command;
 use crate::text::text_of;
 use crate::verdict::{Part, Verdict};
 use ax_io::{FileFault, Files};
-use ax_read::{FirstModule, read_first};
-use ax_sched::{Name, Plan, read_first_schedule};
+use ax_read::read_first;
+use ax_sched::read_first_schedule;
 use std::alloc::Global;
 
-const MODULE_LIMIT: usize = 4_194_304;
-const SCHEDULE_LIMIT: usize = 16_777_216;
-
+/// The most bytes that a file may have.
 fn limit_of(part: Part) -> usize
     ensures { result ≡ limit_of part }
 {
     match part {
-        Part::Module => MODULE_LIMIT,
-        Part::Schedule => SCHEDULE_LIMIT,
+        Part::Module => 4_194_304,
+        Part::Schedule => 16_777_216,
     }
 }
 
-fn fault_of(fault: FileFault, part: Part) -> Verdict {
-    match fault {
-        FileFault::Failed => Verdict::ReadFault(part),
-        FileFault::TooLong => Verdict::TooLong(part),
-        FileFault::Memory => Verdict::Memory,
-    }
-}
-
-/// What the words and the files come to. Nothing is written.
-pub(crate) fn judge<F: Files>(alloc: Global, words: &[String], files: &mut F) -> Verdict
-    ensures { CauseOf (record { held = F.held files.old; asked_before = F.asked files.old; asked = F.asked files.new; faults_before = F.faults files.old; faults = F.faults files.new; taken = F.taken files.new }) (run_form (map string_bytes words.now)) result }
+/// Reads a file of a command.
+fn read_part<F: Files>(
+    alloc: Global,
+    files: &mut F,
+    part: Part,
+    name: &str,
+) -> Result<Vec<u8>, Verdict>
+    ensures reads { MatchResult result (λ bytes. ReadWhole (reading (F.held files.old) (F.asked files.old) (F.asked files.new) (F.faults files.old) (F.faults files.new) (F.taken files.new)) part name.now bytes.items) (λ v. ReadFails (reading (F.held files.old) (F.asked files.old) (F.asked files.new) (F.faults files.old) (F.faults files.new) (F.taken files.new)) part name.now v) }
+    ensures same { (n : List ℕ) → F.held files.new n ≡ F.held files.old n }
 {
-    let Some((module_name, schedule_name)) = run_command(words) else {
-        return Verdict::Usage;
-    };
-    let bytes = match files.read(alloc, module_name, MODULE_LIMIT) {
+    match files.read(alloc, name, limit_of(part)) {
+        Ok(bytes) => Ok(bytes),
+        Err(FileFault::Failed) => Err(Verdict::ReadFault(part)),
+        Err(FileFault::TooLong) => Err(Verdict::TooLong(part)),
+        Err(FileFault::Memory) => Err(Verdict::Memory),
+    }
+}
+
+/// What the run of these files comes to.
+fn judge_run<F: Files>(
+    alloc: Global,
+    files: &mut F,
+    module_name: &str,
+    schedule_name: &str,
+) -> Verdict
+    ensures { CauseOf (reading (F.held files.old) (F.asked files.old) (F.asked files.new) (F.faults files.old) (F.faults files.new) (F.taken files.new)) (Some (module_name.now, schedule_name.now)) result }
+{
+    let bytes = match read_part(alloc, files, Part::Module, module_name) {
         Ok(bytes) => bytes,
-        Err(fault) => return fault_of(fault, Part::Module),
+        Err(verdict) => return verdict,
     };
     let source = match read_first(alloc, &bytes) {
         Ok(Some(source)) => source,
         Ok(None) => return Verdict::Unbuilt(Part::Module),
         Err(_) => return Verdict::Memory,
     };
-    let schedule = match files.read(alloc, schedule_name, SCHEDULE_LIMIT) {
+    let schedule = match read_part(alloc, files, Part::Schedule, schedule_name) {
         Ok(bytes) => bytes,
-        Err(fault) => return fault_of(fault, Part::Schedule),
+        Err(verdict) => return verdict,
     };
     let plan = match read_first_schedule(alloc, &schedule, source.functions.as_slice()) {
         Ok(Some(plan)) => plan,
@@ -61,5 +72,15 @@ pub(crate) fn judge<F: Files>(alloc: Global, words: &[String], files: &mut F) ->
     match text_of(alloc, source, &plan) {
         Ok(text) => Verdict::Text(text),
         Err(_) => Verdict::Memory,
+    }
+}
+
+/// What the words and the files come to. Nothing is written.
+pub(crate) fn judge<F: Files>(alloc: Global, words: &[String], files: &mut F) -> Verdict
+    ensures { CauseOf (reading (F.held files.old) (F.asked files.old) (F.asked files.new) (F.faults files.old) (F.faults files.new) (F.taken files.new)) (run_form (map string_bytes words.now)) result }
+{
+    match run_command(words) {
+        Some((module_name, schedule_name)) => judge_run(alloc, files, module_name, schedule_name),
+        None => Verdict::Usage,
     }
 }

@@ -5,8 +5,8 @@ mod command;
 pub mod done;
 mod judge;
 mod report;
-pub mod top;
 mod text;
+pub mod top;
 pub mod verdict;
 
 pub use done::Done;

@@ -143,10 +143,28 @@ fn refusals(rt: HostRuntime) -> Result<(), Fail> {
         ("run vax m s", Some(TWO_ADDITIONS), plain, 2, "usage\n"),
         ("run rv64 m s s", Some(TWO_ADDITIONS), plain, 2, "usage\n"),
         ("run rv64 m s", None, plain, 74, "read fault module\n"),
-        ("run rv64 m t", Some(TWO_ADDITIONS), plain, 74, "read fault schedule\n"),
+        (
+            "run rv64 m t",
+            Some(TWO_ADDITIONS),
+            plain,
+            74,
+            "read fault schedule\n",
+        ),
         ("run rv64 m s", Some(""), plain, 7, "unbuilt module\n"),
-        ("run rv64 m s", Some(TWO_ADDITIONS), drains, 7, "unbuilt schedule\n"),
-        ("run rv64 m s", Some(TWO_ADDITIONS), "", 7, "unbuilt schedule\n"),
+        (
+            "run rv64 m s",
+            Some(TWO_ADDITIONS),
+            drains,
+            7,
+            "unbuilt schedule\n",
+        ),
+        (
+            "run rv64 m s",
+            Some(TWO_ADDITIONS),
+            "",
+            7,
+            "unbuilt schedule\n",
+        ),
     ];
     for (line, module, schedule, code, text) in table {
         let (done, written) = served(alloc, line, module, schedule, None)?;

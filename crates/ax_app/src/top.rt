@@ -2,8 +2,8 @@
 
 ghost use Rattle.std.specs.Prelude.{◌≡◌, ◌≢◌, map, codes, ◌++◌, ◌∷◌, []};
 ghost use Rattle.std.specs.String.{string_bytes};
-ghost use Rattle.ax_app.specs.Writing.{Writing, Writes, written_of, answer_of};
-ghost use Rattle.ax_app.specs.Serve.{Reading, IsServed};
+ghost use Rattle.ax_app.specs.Writing.{writing, Writes, written_of, answer_of};
+ghost use Rattle.ax_app.specs.Serve.{reading, IsServed};
 ghost use Rattle.ax_app.specs.declared.done.Done.{Done};
 
 use crate::done::Done;
@@ -43,7 +43,7 @@ fn answer_of(verdict: &Verdict) -> Done
 
 /// Writes the bytes, and gives the answer.
 fn told<S: Sink>(sink: &mut S, bytes: &[u8], answer: Done) -> Done
-    ensures { Writes (record { written_before = S.written sink.old; written = S.written sink.new; faults_before = S.faults sink.old; faults = S.faults sink.new }) bytes.now answer result }
+    ensures { Writes (writing (S.written sink.old) (S.written sink.new) (S.faults sink.old) (S.faults sink.new)) bytes.now answer result }
 {
     match sink.put(bytes) {
         Ok(()) => answer,
@@ -61,7 +61,7 @@ pub fn serve<F: Files, S: Sink>(
     files: &mut F,
     sink: &mut S,
 ) -> Done
-    ensures { IsServed (map string_bytes words.now) (record { held = F.held files.old; asked_before = F.asked files.old; asked = F.asked files.new; faults_before = F.faults files.old; faults = F.faults files.new; taken = F.taken files.new }) (record { written_before = S.written sink.old; written = S.written sink.new; faults_before = S.faults sink.old; faults = S.faults sink.new }) result }
+    ensures { IsServed (map string_bytes words.now) (reading (F.held files.old) (F.asked files.old) (F.asked files.new) (F.faults files.old) (F.faults files.new) (F.taken files.new)) (writing (S.written sink.old) (S.written sink.new) (S.faults sink.old) (S.faults sink.new)) result }
 {
     let verdict = judge(alloc, words, files);
     told(sink, line_of(&verdict).as_bytes(), answer_of(&verdict))

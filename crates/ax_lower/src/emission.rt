@@ -104,13 +104,14 @@ pub(crate) fn emit(alloc: Global, program: &First) -> Result<Image<RvInstr>, All
     ensures { IfOk result (λ image. IsImageOf image program.now) }
 {
     let functions = program.functions.as_slice();
+    let frames = frames(alloc, functions)?;
     let draft = drafted(alloc, functions)?;
     Ok(Image {
         code: Items::of(instructions(alloc, &draft.lines)?),
         tags: Items::of(tags(alloc, &draft.lines)?),
         sites: Items::of(draft.sites),
         entries: Items::of(draft.entries),
-        frames: Items::of(frames(alloc, functions)?),
+        frames: Items::of(frames),
     })
 }
 

@@ -2,10 +2,10 @@
 #![tactic(auto)]
 
 mod emission;
-pub mod lowering;
 pub mod lowered;
+pub mod lowering;
 
 pub use ax_ir::Name;
 pub use ax_isa::Image;
-pub use lowering::lower;
 pub use lowered::Lowered;
+pub use lowering::lower;

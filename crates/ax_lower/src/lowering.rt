@@ -18,11 +18,7 @@ use std::alloc::{AllocError, Global};
 /// For every list of entries and every list of machine events, the run of the image agrees with
 /// the run of the program under the image's explanation. Memory is the only refusal.
 #[tactic(auto, using(crate::proofs::Agreement::lowers, crate::proofs::Agreement::no_idling, crate::proofs::Marks::has_rows, crate::proofs::Soundness::sound))]
-pub fn lower(
-    alloc: Global,
-    names: Items<Name>,
-    program: &First,
-) -> Result<Lowered, AllocError>
+pub fn lower(alloc: Global, names: Items<Name>, program: &First) -> Result<Lowered, AllocError>
     requires first { IsFirst program.now }
     requires limits { IsWithinLimits program.now }
     ensures names { IfOk result (λ l. l.names ≡ names) }

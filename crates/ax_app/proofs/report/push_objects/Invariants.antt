@@ -1,0 +1,11 @@
+use Rattle.std.proofs.Common.{◌≡◌, ◌++◌, drop}
+use Rattle.std.specs.String.{string_bytes}
+use Rattle.ax_isa.specs.Run.{Machine}
+use Rattle.ax_run.specs.Machine.{Shows}
+use Rattle.ax_app.specs.Report.{object_part}
+use Rattle.ax_app.proofs.report.push_objects.Given as goal
+
+-- what was appended and what is left is the whole
+abbrev pub invariant-loop-name : goal.invariant-loop-name
+invariant-loop-name l =
+    (l.g ≡ l.name-index) × ((m : Machine) → Shows l.run.now.machine m → string_bytes l.out ++ object_part m l.name-index (drop l.name-index l.globals) ≡ string_bytes l.initial.out ++ object_part m 0 l.globals)

@@ -1,0 +1,5 @@
+pub mod Registers
+pub mod Assembly
+pub mod Tokens
+pub mod Lines
+pub mod Report

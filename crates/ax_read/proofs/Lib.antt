@@ -1,0 +1,16 @@
+pub mod Texts
+pub mod Exact
+pub mod Numbers
+pub mod Walks
+pub mod Parts
+pub mod Says
+pub mod SaysAgain
+pub mod Steps
+pub mod Functions
+pub mod Distinct
+pub mod Orders
+pub mod OneText
+pub mod ResultLemmas
+pub mod Bodies
+pub mod Whole
+pub mod WholeAgain

@@ -1,0 +1,6 @@
+pub mod Bytes
+pub mod FirstText
+pub mod Pieces
+pub mod Grammar
+pub mod Lines
+pub mod Reading
