@@ -12,3 +12,6 @@ pub use ax_ops::SourceEvent;
 pub use ax_sched::Plan;
 pub use ax_source::First;
 pub use run::{Run, prepare};
+
+#[cfg(test)]
+mod tests;
