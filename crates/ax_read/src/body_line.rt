@@ -37,7 +37,8 @@ fn operand<'a>(text: &'a [u8], results: &Results) -> Option<(FirstValue, &'a [u8
 
 #[tactic(auto, unfolding(crate::specs::Lines::load_line))]
 fn load_line<'a>(text: &'a [u8], names: &Names, result_number: u64) -> Option<(BodyLine, &'a [u8])>
-    ensures { Gives (λ x. (x.0, x.1.now)) result (reads (load_line names.now result_number) text.now) }
+    ensures { Gives (λ x. (x.0, x.1.now)) result
+        (reads (load_line names.now result_number) text.now) }
 {
     let rest = strip(text, b"load atomic i64, ptr @")?;
     let (global, rest) = global(rest, names)?;
@@ -59,7 +60,8 @@ fn add_line<'a>(
     results: &Results,
     result_number: u64,
 ) -> Option<(BodyLine, &'a [u8])>
-    ensures { Gives (λ x. (x.0, x.1.now)) result (reads (add_line names.now results.now result_number) text.now) }
+    ensures { Gives (λ x. (x.0, x.1.now)) result
+        (reads (add_line names.now results.now result_number) text.now) }
 {
     let rest = strip(text, b"atomicrmw add ptr @")?;
     let (global, rest) = global(rest, names)?;
@@ -79,7 +81,8 @@ fn add_line<'a>(
 
 #[tactic(auto, unfolding(crate::specs::Lines::store_line))]
 fn store_line<'a>(text: &'a [u8], names: &Names, results: &Results) -> Option<(BodyLine, &'a [u8])>
-    ensures { Gives (λ x. (x.0, x.1.now)) result (reads (store_line names.now results.now) text.now) }
+    ensures { Gives (λ x. (x.0, x.1.now)) result
+        (reads (store_line names.now results.now) text.now) }
 {
     let rest = strip(text, b"store atomic i64 ")?;
     let (value, rest) = operand(rest, results)?;
@@ -109,7 +112,8 @@ fn out_line<'a>(text: &'a [u8], results: &Results) -> Option<(BodyLine, &'a [u8]
 /// A line with a result, whose number is none of those before.
 #[tactic(auto, unfolding(crate::specs::Lines::result_line))]
 fn result_line<'a>(text: &'a [u8], names: &Names, results: &Results) -> Option<(BodyLine, &'a [u8])>
-    ensures { Gives (λ x. (x.0, x.1.now)) result (reads (result_line names.now results.now) text.now) }
+    ensures { Gives (λ x. (x.0, x.1.now)) result
+        (reads (result_line names.now results.now) text.now) }
 {
     let rest = strip(text, b"%")?;
     let (result_number, rest) = number(rest)?;
@@ -131,7 +135,8 @@ pub fn body_line<'a>(
     names: &Names,
     results: &Results,
 ) -> Option<(BodyLine, &'a [u8])>
-    ensures { Gives (λ x. (x.0, x.1.now)) result (reads (body_line names.now results.now) text.now) }
+    ensures { Gives (λ x. (x.0, x.1.now)) result
+        (reads (body_line names.now results.now) text.now) }
 {
     let rest = strip(text, b"  ")?;
     let first = first_byte(rest);

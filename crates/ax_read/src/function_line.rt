@@ -12,7 +12,8 @@ use crate::piece::{first_byte, number, own_name, strip};
 /// its number, and what stands behind it.
 #[tactic(auto, unfolding(crate::specs::Lines::global_line))]
 pub fn global_line<'a>(text: &'a [u8], taken: &Names) -> Option<((&'a [u8], u64), &'a [u8])>
-    ensures { Gives (λ x. (record { name = x.0.0.now; number = x.0.1 }, x.1.now)) result (reads (global_line taken.now) text.now) }
+    ensures { Gives (λ x. (record { name = x.0.0.now; number = x.0.1 }, x.1.now)) result
+        (reads (global_line taken.now) text.now) }
 {
     let rest = strip(text, b"@")?;
     let (name, rest) = own_name(rest)?;
@@ -32,7 +33,8 @@ pub fn head_line<'a>(
     globals: &Names,
     functions: &Names,
 ) -> Option<(&'a [u8], &'a [u8])>
-    ensures { Gives (λ x. (x.0.now, x.1.now)) result (reads (head_line globals.now functions.now) text.now) }
+    ensures { Gives (λ x. (x.0.now, x.1.now)) result
+        (reads (head_line globals.now functions.now) text.now) }
 {
     let rest = strip(text, b"define void @")?;
     let (name, rest) = own_name(rest)?;

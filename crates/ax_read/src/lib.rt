@@ -13,3 +13,6 @@ pub mod text;
 
 pub use module::FirstModule;
 pub use reader::read_first;
+
+#[cfg(test)]
+mod tests;

@@ -26,7 +26,8 @@ const LINES: usize = 2047;
 
 /// The globals at the front of a text, their names, and what stands behind them.
 fn globals(alloc: Global, text: &[u8]) -> Result<(Vec<GlobalText>, Names, &[u8]), AllocError>
-    ensures { IfOk result (λ x. AllRead ReadsGlobal 256 text.now x.0.items x.2.now × (x.1 ≡ map (λ g. g.name) x.0.items)) }
+    ensures { IfOk result (λ x. AllRead ReadsGlobal 256 text.now x.0.items x.2.now
+        × (x.1 ≡ map (λ g. g.name) x.0.items)) }
 {
     let mut texts = Vec::new(alloc);
     let mut names = Names::new(alloc);
@@ -89,7 +90,10 @@ fn function<'a>(
     globals: &Names,
     functions: &Names,
 ) -> Result<Option<(FunctionText, &'a [u8])>, AllocError>
-    ensures { IfOk result (λ o. (before : List FunctionText) → functions.now ≡ map (λ f. f.name) before → MatchOption o ((f : FunctionText) (rest : List ℕ) → ReadsFunction globals.now before text.now f rest → ⊥) (λ x. ReadsFunction globals.now before text.now x.0 x.1.now)) }
+    ensures { IfOk result (λ o. (before : List FunctionText) → functions.now ≡ map (λ f. f.name) before
+        → MatchOption o
+        ((f : FunctionText) (rest : List ℕ) → ReadsFunction globals.now before text.now f rest → ⊥)
+        (λ x. ReadsFunction globals.now before text.now x.0 x.1.now)) }
 {
     let Some((name, behind)) = head_line(text, globals, functions) else {
         return Ok(None);
@@ -139,7 +143,9 @@ fn declare(text: &[u8]) -> (bool, &[u8])
 
 /// What the text says, line by line.
 fn first_text(alloc: Global, text: &[u8]) -> Result<Option<FirstText>, AllocError>
-    ensures { IfOk result (λ o. MatchOption o ((t : _) → ReadsText text.now t → ⊥) (λ t. ReadsText text.now t)) }
+    ensures { IfOk result (λ o. MatchOption o
+        ((t : FirstText) → ReadsText text.now t → ⊥)
+        (λ t. ReadsText text.now t)) }
 {
     let (texts, names, rest) = globals(alloc, text)?;
     let (declares_out, rest) = declare(rest);
@@ -159,7 +165,8 @@ fn first_text(alloc: Global, text: &[u8]) -> Result<Option<FirstText>, AllocErro
     }))
 }
 
-/// The module of a text of the first form; None exactly where the text is of no such module.
+/// The module of a text of the first form, in time linear in the text; None exactly where the text
+/// is the spelling of no such module. The only error is that of memory.
 pub fn read_first(alloc: Global, text: &[u8]) -> Result<Option<FirstModule>, AllocError>
     ensures found { IfOk result (λ o. (m : FirstModule) → o ≡ Some m → IsFirstText text.now m) }
     ensures all { IfOk result (λ o. (m : FirstModule) → IsFirstText text.now m → o ≡ Some m) }
