@@ -1,6 +1,7 @@
 use crate::{Done, serve};
 use ax_io::{MemFiles, MemSink};
 use std::alloc::{AllocError, Global};
+use std::fmt::Write;
 use std::test::Fail;
 
 const TWO_ADDITIONS: &str = "@x = global i64 0, align 8
@@ -101,6 +102,47 @@ processor 1 ended 0 retired 13 pending 0
 source A0*2 A1*2 A0*3 A1*3
 machine S0*6 S1*6 S0*7 S1*7
 end
+";
+
+const BETWEEN: &str = "report
+target rv64
+processors 2
+events 26
+output 0 0
+output 1 2
+output 1 3
+output 0 1
+object @x 0 4
+processor 0 ended 0 retired 13 pending 0
+processor 1 ended 0 retired 13 pending 0
+source A0*3 A1*5 A0*2
+machine S0*9 S1*13 S0*4
+end
+";
+
+// 256 additions of 4 instructions and 1,790 of 6, an output of 4, and the return.
+const FAR_SLOTS: &str = "report
+target rv64
+processors 1
+events 20000
+output 0 2045
+object @x 0 2046
+processor 0 ended 0 retired 11769 pending 0
+source A0*2048
+machine S0*20000
+end
+";
+
+const GREATEST: &str = "@aZ_9 = global i64 18446744073709551615, align 8
+define void @b_Y8() {
+  ret void
+}
+";
+
+const TOO_GREAT: &str = "@aZ_9 = global i64 18446744073709551616, align 8
+define void @b_Y8() {
+  ret void
+}
 ";
 
 const EACH_ORDER: &str = "@a = global i64 7, align 8
@@ -224,6 +266,41 @@ fn words_of(alloc: Global, line: &str) -> Result<Vec<String>, AllocError> {
     Ok(words)
 }
 
+// So many globals, and so many functions of so many lines each.
+fn many(
+    alloc: Global,
+    globals: usize,
+    functions: usize,
+    lines: usize,
+) -> Result<String, AllocError> {
+    let mut text = String::new(alloc);
+    for i in 0..globals {
+        write!(text, "@g{i} = global i64 {i}, align 8\n")?;
+    }
+    for i in 0..functions {
+        write!(text, "define void @f{i}() {{\n")?;
+        for _ in 0..lines {
+            text.push_str("  call void @out(i64 0)\n")?;
+        }
+        text.push_str("  ret void\n}\n")?;
+    }
+    Ok(text)
+}
+
+// 2,046 additions to one global, and an output of the last one's result.
+fn many_results(alloc: Global) -> Result<String, AllocError> {
+    let mut text = String::new(alloc);
+    text.push_str("@x = global i64 0, align 8\ndeclare void @out(i64)\ndefine void @f() {\n")?;
+    for i in 0..2046 {
+        write!(
+            text,
+            "  %{i} = atomicrmw add ptr @x, i64 1 seq_cst, align 8\n"
+        )?;
+    }
+    text.push_str("  call void @out(i64 %2045)\n  ret void\n}\n")?;
+    Ok(text)
+}
+
 // The answer and what was written, for files `m` and `s`; a put whose number is named fails after 3 bytes.
 fn served(
     alloc: Global,
@@ -264,6 +341,7 @@ fn runs_of_two_additions(rt: HostRuntime) -> Result<(), Fail> {
             "processors @f @f\nstep 0 6\nstep 1 6\nstep 0 7\nstep 1 7\n",
             IN_TURNS,
         ),
+        ("processors @f @f\nstep 0 9\nstep 1 13\nstep 0 4\n", BETWEEN),
     ];
     for (schedule, report) in table {
         let (done, written) = served(alloc, "run rv64 m s", Some(TWO_ADDITIONS), schedule, None)?;
@@ -324,5 +402,50 @@ fn each_order_has_its_row(rt: HostRuntime) -> Result<(), Fail> {
     let (done, written) = served(rt.alloc(), "run rv64 m s", Some(EACH_ORDER), schedule, None)?;
     assert_eq!(rt; done.code(), 0);
     assert!(rt; written.as_slice() == EACH_ROW.as_bytes());
+    Ok(())
+}
+
+#[test]
+fn limits(rt: HostRuntime) -> Result<(), Fail> {
+    let alloc = rt.alloc();
+    let rows = [
+        (256, 1, 1, 0),
+        (257, 1, 1, 7),
+        (1, 64, 1, 0),
+        (1, 65, 1, 7),
+        (1, 1, 2047, 0),
+        (1, 1, 2048, 7),
+    ];
+    for (globals, functions, lines, code) in rows {
+        let text = many(alloc, globals, functions, lines)?;
+        let schedule = "processors @f0\nstep 0 9\n";
+        let (done, _) = served(alloc, "run rv64 m s", Some(text.as_str()), schedule, None)?;
+        assert_eq!(rt; done.code(), code, "{globals} {functions} {lines}");
+    }
+    for (module, code) in [(GREATEST, 0), (TOO_GREAT, 7)] {
+        let schedule = "processors @b_Y8\nstep 0 1\n";
+        let (done, _) = served(alloc, "run rv64 m s", Some(module), schedule, None)?;
+        assert_eq!(rt; done.code(), code, "{module}");
+    }
+    let long = " ".repeat(alloc, 4_194_305)?;
+    let (done, written) = served(alloc, "run rv64 m s", Some(long.as_str()), "", None)?;
+    assert_eq!(rt; done.code(), 6);
+    assert!(rt; written.as_slice() == b"too long module\n".as_slice());
+    Ok(())
+}
+
+#[test]
+fn slots_out_of_reach(rt: HostRuntime) -> Result<(), Fail> {
+    let text = many_results(rt.alloc())?;
+    let schedule = "processors @f\nstep 0 20000\n";
+    let (done, written) = served(
+        rt.alloc(),
+        "run rv64 m s",
+        Some(text.as_str()),
+        schedule,
+        None,
+    )?;
+    assert_eq!(rt; done.code(), 0);
+    assert!(rt; written.as_slice().ends_with(FAR_SLOTS.as_bytes()));
     Ok(())
 }
