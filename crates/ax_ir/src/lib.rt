@@ -1,7 +1,15 @@
-//! Modules as data: so far the names of globals and functions.
+//! Modules of LLVM's text as data.
 #![tactic(auto)]
 
+pub mod inst;
+pub mod module;
 pub mod names;
+pub mod operand;
+pub mod types;
 
 pub use ax_ops::{Items, Place, Site};
+pub use inst::{BinOp, Cast, Inst, Pred};
+pub use module::{Block, Function, Global, Module};
 pub use names::Name;
+pub use operand::{Addr, Arg, Base, Operand};
+pub use types::Ty;
