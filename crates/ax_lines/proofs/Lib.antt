@@ -1,0 +1,4 @@
+pub mod SameSign
+pub mod Passing
+pub mod Closing
+pub mod Exact

@@ -1,0 +1,7 @@
+pub mod Signs
+pub mod Pieces
+pub mod Grammar
+pub mod Productions
+pub mod Lines
+pub mod Vectors
+pub mod Stops
