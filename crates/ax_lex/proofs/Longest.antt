@@ -1,8 +1,8 @@
 -- What the scanner finds at the front is the longest token there.
-use Rattle.std.proofs.Common.{◌≡◌, ℕ, zero, suc, ◌+◌, ◌<◌, ◌≤◌, Bool, true, false, cond, ◌&&◌, ◌||◌, List, [], ◌∷◌, length, take, drop, Option, Some, None, refl, sym, ap, subst, ◌∙◌, arith, inl, inr, one-add, add-one}
+use Rattle.std.proofs.Common.{◌≡◌, ℕ, zero, suc, ◌+◌, ◌<◌, ◌≤◌, Bool, true, false, cond, ◌&&◌, List, [], ◌∷◌, length, take, drop, Option, Some, None, refl, sym, ap, subst, ◌∙◌, arith, inl, inr, one-add}
 use Rattle.std.specs.Prelude.{MatchOption, ◌==◌}
 use Rattle.std.specs.List.{list_all, prefix_len}
-use Rattle.std.proofs.lemmas.Bool.{and_parts, and_from, or_cases, or_left, or_right, cases_Bool, cases_lt, cases_eq, eq-eqb, ne_eqb, eqb-true}
+use Rattle.std.proofs.lemmas.Bool.{and_parts, and_from, or_cases, or_left, or_right, cases_lt, cases_eq, eq-eqb, ne_eqb, eqb-true}
 use Rattle.std.proofs.Math.Seq.{take-nil}
 use Rattle.std.proofs.lemmas.List.Sums.{prefix_len-le-length}
 use Rattle.ax_lex.specs.declared.token.TokenKind.{TokenKind}
@@ -10,7 +10,7 @@ use Rattle.ax_lex.specs.declared.token.TokenKind.TheVariants.{Word, Local, Globa
 use Rattle.ax_lex.specs.declared.bytes.Start.{Start}
 use Rattle.ax_lex.specs.declared.bytes.Start.TheVariants as start
 use Rattle.ax_lex.specs.Bytes.{is_name_byte, is_meta_byte, is_literal_byte, is_text_byte, is_digit, start_of}
-use Rattle.ax_lex.specs.Tokens.{some_all, is_empty, is_number, is_closed, is_quoted, is_name, goes_on, is_token, IsLongest, StartsNone}
+use Rattle.ax_lex.specs.Tokens.{some_all, is_empty, is_number, is_closed, is_name, goes_on, is_token, IsLongest, StartsNone}
 use Rattle.ax_lex.specs.Scan.{IsScan, behind_one, starts_quote, text_run, quoted, named, banged, negative, token_from, token_of}
 
 -- ---- runs
@@ -57,7 +57,7 @@ empty_bounds (b ∷ bs) (suc m) h e = absurd cc
 -- ---- the inside of a text
 
 -- a closing quote stands behind the run
-abbrev closes : List ℕ → Bool
+abbrev pub closes : List ℕ → Bool
 closes bs = starts_quote (drop (text_run bs) bs)
 
 closes_step : (b : ℕ) (bs : List ℕ) (t : Bool) → is_text_byte b ≡ t → t ≡ true → closes bs ≡ true → starts_quote (drop (cond t (1 + text_run bs) 0) (b ∷ bs)) ≡ true
@@ -74,13 +74,13 @@ closed_is [] (suc m) h e = absurd (omega arith)
 closed_is (b ∷ bs) (suc m) h e =
     elim (or_cases (b == 34 && is_empty (take m bs)) (is_text_byte b && is_closed (take m bs)) e) [
       | inl u ↦
-        let a = and_parts (b == 34) (is_empty (take m bs)) u in
-        let z = empty_bounds bs m (omega arith) a.1 in
-        rw (quote_ends b a.0) (omega arith, a.0)
+          let a = and_parts (b == 34) (is_empty (take m bs)) u in
+          let z = empty_bounds bs m (omega arith) a.1 in
+          rw (quote_ends b a.0) (omega arith, a.0)
       | inr u ↦
-        let a = and_parts (is_text_byte b) (is_closed (take m bs)) u in
-        let r = closed_is bs m (omega arith) a.1 in
-        (rw a.0 (omega (arith, r.0)), closes_step b bs (is_text_byte b) refl a.0 r.1)
+          let a = and_parts (is_text_byte b) (is_closed (take m bs)) u in
+          let r = closed_is bs m (omega arith) a.1 in
+          (rw a.0 (omega (arith, r.0)), closes_step b bs (is_text_byte b) refl a.0 r.1)
     ]
 
 closed_step : (b : ℕ) (bs : List ℕ) (t : Bool) → is_text_byte b ≡ t → (closes bs ≡ true → is_closed (take (1 + text_run bs) bs) ≡ true) → starts_quote (drop (cond t (1 + text_run bs) 0) (b ∷ bs)) ≡ true
@@ -208,7 +208,7 @@ at_only bs _ e = absurd cc
 at_begins : BeginsName start.At Global
 at_begins = record { goes = λ bs e. e; only = at_only }
 
-quote_no_name : (b : ℕ) → (b == 34) ≡ true → is_name_byte b ≡ false
+pub quote_no_name : (b : ℕ) → (b == 34) ≡ true → is_name_byte b ≡ false
 quote_no_name b e = let f : b ≡ 34 = eqb-true b 34 e in rw f refl
 
 -- a name that begins with a quote is a quoted text

@@ -1,14 +1,12 @@
 -- The scanner's walk over the text.
-use Rattle.std.proofs.Common.{◌≡◌, ℕ, ◌+◌, ◌-◌, ◌<◌, ◌≤◌, true, false, List, [], ◌∷◌, ◌++◌, length, take, drop, refl, sym, ap, subst, ◌∙◌, arith, All}
+use Rattle.std.proofs.Common.{◌≡◌, ℕ, ◌+◌, ◌-◌, ◌<◌, ◌≤◌, true, List, [], ◌∷◌, ◌++◌, length, take, drop, refl, sym, ap, subst, ◌∙◌, arith, All}
 use Rattle.std.specs.List.{AllByRecursion}
 use Rattle.std.proofs.lemmas.List.Elements.{All-from_recursion}
 use Rattle.std.specs.Prelude.{Option, Some, None, IfSome}
 use Rattle.std.proofs.lemmas.List.{length-drop}
-use Rattle.std.proofs.lemmas.Bool.{cases_lt}
-use Rattle.std.proofs.Common.{inl, inr}
 use Rattle.ax_lex.specs.declared.token.TokenKind.{TokenKind}
 use Rattle.ax_lex.specs.declared.token.Token.{Token}
-use Rattle.ax_lex.specs.Tokens.{IsLongest, StartsNone, IsNext, TokensTo, behind_gap, gap, AreTokens, IsFirstBad, is_token}
+use Rattle.ax_lex.specs.Tokens.{IsLongest, StartsNone, IsNext, TokensTo, behind_gap, AreTokens, IsFirstBad, is_token}
 use Rattle.ax_lex.specs.Scan.{IsScan}
 use Rattle.ax_lex.proofs.Longest.{one_longest, longest_positive}
 

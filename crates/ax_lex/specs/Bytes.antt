@@ -1,5 +1,5 @@
 -- What single bytes are.
-use Rattle.std.specs.Prelude.{◌≡◌, ℕ, Bool, true, false, not, ◌&&◌, ◌||◌, nat_le, ◌==◌, if◌then◌else◌, List, codes}
+use Rattle.std.specs.Prelude.{ℕ, Bool, not, ◌&&◌, ◌||◌, nat_le, ◌==◌, if◌then◌else◌, codes}
 use Rattle.std.specs.List.{list_any}
 use Rattle.ax_lex.specs.declared.bytes.Start.{Start}
 use Rattle.ax_lex.specs.declared.bytes.Start.TheVariants as start

@@ -1,5 +1,5 @@
 -- The token at the front, by its first byte.
-use Rattle.std.specs.Prelude.{◌≡◌, ℕ, ◌+◌, ◌==◌, if◌then◌else◌, Bool, true, false, List, [], ◌∷◌, drop, Option, Some, None, MatchOption}
+use Rattle.std.specs.Prelude.{ℕ, ◌+◌, ◌==◌, if◌then◌else◌, Bool, false, List, [], ◌∷◌, drop, Option, Some, None, MatchOption}
 use Rattle.std.specs.List.{prefix_len}
 use Rattle.ax_lex.specs.declared.token.TokenKind.{TokenKind}
 use Rattle.ax_lex.specs.declared.token.TokenKind.TheVariants.{Word, Local, Global, Meta, Group, Literal, Text, Mark, Newline}

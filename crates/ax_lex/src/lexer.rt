@@ -2,6 +2,7 @@
 
 ghost use Rattle.std.specs.Prelude.{◌≡◌, ℕ, ◌≤◌, ◌<◌, List, length, All, IfOk, MatchResult};
 ghost use Rattle.ax_lex.specs.Tokens.{AreTokens, IsFirstBad, IsLexFault, IsByteAt};
+ghost use Rattle.ax_lex.specs.Written.{Piece, render, tokens_at, FitsText};
 
 use crate::scan::{gap_end, next_token};
 use crate::token::{LexFault, Token};
@@ -21,6 +22,8 @@ pub fn tokens(alloc: Global, text: &[u8]) -> Result<Vec<Token>, LexFault>
     ensures fault { MatchResult result (λ _. Unit {0}) (λ e. IsLexFault text.now e) }
     // The first bad place is answered, unless memory runs out.
     ensures bad { (at : ℕ) → IsFirstBad text.now at → MatchResult result (λ _. ⊥) (λ e. IsByteAt at e) }
+    // A text that was written token by token has those tokens.
+    ensures written { (ps : List Piece) → text.now ≡ render ps → FitsText ps → MatchResult result (λ v. v.items ≡ tokens_at 0 ps) (λ e. e ≡ LexFault.Memory) }
     // Each token has a byte and lies in the text.
     ensures within { IfOk result (λ v. All (λ t. (t.start < t.end) × (t.end ≤ length text.now)) v.items) }
 {

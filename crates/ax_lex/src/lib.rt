@@ -11,3 +11,6 @@ mod token;
 
 pub use lexer::tokens;
 pub use token::{LexFault, Token, TokenKind, text_of};
+
+#[cfg(test)]
+mod tests;

@@ -120,7 +120,11 @@ fn group(rest: &[u8]) -> Option<(TokenKind, usize)>
     ensures { result ≡ behind_one is_digit TokenKind.Group rest.now }
 {
     let n = digit_run(rest);
-    if n == 0 { None } else { Some((TokenKind::Group, 1 + n)) }
+    if n == 0 {
+        None
+    } else {
+        Some((TokenKind::Group, 1 + n))
+    }
 }
 
 fn negative(rest: &[u8]) -> Option<(TokenKind, usize)>
