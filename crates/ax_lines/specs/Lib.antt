@@ -5,3 +5,5 @@ pub mod Productions
 pub mod Lines
 pub mod Vectors
 pub mod Stops
+pub mod Stated
+pub mod Faults

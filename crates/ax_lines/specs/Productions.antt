@@ -562,11 +562,17 @@ unnamed phis (sign.Word word.Ret) b = states None (return_line b)
 unnamed phis (sign.Word word.Unreachable) b = states None unreachable_line
 unnamed phis a b = valued phis None a b
 
+-- %r =
+abbrev pub result_name : Grammar Span
+result_name = do
+  r ← one local_of
+  signs (m mark.Equals ∷ [])
+  gives r
+
 -- %r = and an instruction that has a result
 unfoldable pub named : Bool → Grammar Line
 named phis = do
-  r ← one local_of
-  signs (m mark.Equals ∷ [])
+  r ← result_name
   by (valued phis (Some r))
 
 -- nothing
@@ -628,8 +634,7 @@ at_start a b = cond (is_label a b) label_line (in_block true a b)
 -- %r = and a call that is passed over
 unfoldable pub named_call : Grammar Line
 named_call = do
-  r ← one local_of
-  signs (m mark.Equals ∷ [])
+  r ← result_name
   call true (Some r)
 
 -- behind a terminator: a label, }, or a line that is passed over

@@ -1,4 +1,4 @@
-//! Why a line is not read, and items parted by commas.
+//! Why a line is not read.
 
 ghost use Rattle.ax_lines.specs.declared.listing.Stop.TheVariants.{Memory};
 

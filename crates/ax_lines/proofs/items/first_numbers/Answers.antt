@@ -1,0 +1,15 @@
+use Rattle.ax_lines.specs.Productions.{element}
+use Rattle.ax_lines.specs.Grammar.{reads, list}
+use Rattle.ax_lines.proofs.Commas.{list_ends, list_goes_on, list_smaller}
+use Rattle.ax_lines.proofs.items.first_numbers.Goals as goal
+
+pub returns-in_default-strip : goal.returns-in_default-strip
+returns-in_default-strip c =
+    rw c.in_ok-push.ensures.items (list_ends (element c.args.ty) c.loop-item.found.items c.loop-item.rest.now (reads (list (element c.args.ty)) c.args.line.now) c.in-Some.item c.in-Some.behind.now c.loop-item.invariant c.in-Some.ensures c.in_default-strip.ensures)
+
+pub loop-item-preserved : goal.loop-item-preserved
+loop-item-preserved c =
+    rw c.in_ok-push.ensures.items (list_goes_on (element c.args.ty) c.loop-item.found.items c.loop-item.rest.now (reads (list (element c.args.ty)) c.args.line.now) c.in-Some.item c.in-Some.behind.now c.in-Some-strip.next.now c.loop-item.invariant c.in-Some.ensures c.in-Some-strip.ensures)
+
+pub loop-item-smaller : goal.loop-item-smaller
+loop-item-smaller c = list_smaller (element c.args.ty) c.loop-item.rest.now c.in-Some.item c.in-Some.behind.now c.in-Some-strip.next.now c.in-Some.ensures c.in-Some-strip.ensures

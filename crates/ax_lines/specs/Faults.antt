@@ -1,0 +1,20 @@
+-- The faults of lines.
+use Rattle.std.specs.Prelude.{◌≡◌, ℕ, Bool, true, false, cond, List}
+use Rattle.ax_lines.specs.declared.symbol.Symbol.{Symbol}
+use Rattle.ax_lines.specs.declared.statement.Place.{Place}
+use Rattle.ax_lines.specs.declared.listing.Stop.{Stop}
+use Rattle.ax_lines.specs.declared.listing.Stop.TheVariants as stop
+use Rattle.ax_lines.specs.declared.fault.LineFault.{LineFault}
+use Rattle.ax_lines.specs.declared.fault.LineFault.TheVariants.{Syntax, Opcode, Memory}
+use Rattle.ax_lines.specs.Lines.{IsSyntax, IsOpcode, is_opcode_fault}
+
+-- what a fault of the lines says
+abbrev pub IsLineFault : List (List Symbol) → LineFault → Type 0
+IsLineFault ls (Syntax line) = IsSyntax ls line
+IsLineFault ls (Opcode line) = IsOpcode ls line
+IsLineFault ls Memory = Unit {0}
+
+-- the fault of a line that is no production at its place
+abbrev pub fault_of : Stop → Place → List Symbol → ℕ → LineFault
+fault_of stop.Memory p l number = Memory
+fault_of stop.Bad p l number = cond (is_opcode_fault p l) (Opcode number) (Syntax number)
