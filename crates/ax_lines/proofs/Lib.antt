@@ -2,3 +2,4 @@ pub mod SameSign
 pub mod Passing
 pub mod Closing
 pub mod Exact
+pub mod SymbolLemmas

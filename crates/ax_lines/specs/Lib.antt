@@ -5,3 +5,4 @@ pub mod Productions
 pub mod Lines
 pub mod Vectors
 pub mod Stops
+pub mod Symbols
