@@ -1,10 +1,9 @@
 -- Words and marks that are written are found again.
-use Rattle.std.proofs.Common.{◌≡◌, List, [], ◌∷◌, refl}
+use Rattle.std.proofs.Common.{◌≡◌, [], ◌∷◌, refl}
 use Rattle.ax_lines.specs.declared.symbol.Word.{Word}
 use Rattle.ax_lines.specs.declared.symbol.Word.TheVariants as word
 use Rattle.ax_lines.specs.declared.symbol.Punctuation.{Punctuation}
 use Rattle.ax_lines.specs.declared.symbol.Punctuation.TheVariants as mark
-use Rattle.ax_lines.specs.declared.symbol.Sign.{Sign}
 use Rattle.ax_lines.specs.declared.symbol.Sign.TheVariants as sign
 use Rattle.ax_lines.specs.Signs.{word_text, mark_byte}
 use Rattle.ax_lines.specs.Symbols.{word_of, mark_sign}
