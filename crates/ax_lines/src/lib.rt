@@ -8,7 +8,7 @@ mod piece;
 mod signs;
 pub mod statement;
 pub mod symbol;
-pub mod symbols;
+mod symbols;
 mod types;
 mod words;
 

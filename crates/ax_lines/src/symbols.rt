@@ -203,9 +203,11 @@ fn symbol_of(text: &[u8], token: Token) -> Symbol
     }
 }
 
-/// The symbols of the tokens of a text.
+/// The symbols of the tokens of a text, one for each token, with names as places in the text in
+/// bytes (LLVM Language Reference, Identifiers).
 ///
-/// A token that reaches past the text counts with the bytes that are there.
+/// A token that reaches past the text counts with the bytes that are there. Answers `AllocError`
+/// where memory runs out.
 pub fn symbols(alloc: Global, text: &[u8], tokens: &[Token]) -> Result<Vec<Symbol>, AllocError>
     ensures { IfOk result (λ v. v.items ≡ map (symbol_of text.now) tokens.now) }
 {
