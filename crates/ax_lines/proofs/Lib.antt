@@ -3,3 +3,5 @@ pub mod Passing
 pub mod Closing
 pub mod Exact
 pub mod Commas
+pub mod SymbolLemmas
+pub mod Places

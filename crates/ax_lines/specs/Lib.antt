@@ -7,3 +7,4 @@ pub mod Vectors
 pub mod Stops
 pub mod Stated
 pub mod Faults
+pub mod Symbols

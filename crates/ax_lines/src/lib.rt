@@ -17,6 +17,7 @@ mod place;
 mod signs;
 pub mod statement;
 pub mod symbol;
+mod symbols;
 mod types;
 mod words;
 
