@@ -1,5 +1,7 @@
 -- The lines of a text, each a production in its place, and the first that is none.
-use Rattle.std.specs.Prelude.{◌≡◌, ◌≢◌, ℕ, ◌+◌, Bool, true, false, not, ◌||◌, ◌&&◌, cond, List, [], ◌∷◌, ◌++◌, length, ◌⊎◌}
+use Rattle.std.specs.Prelude.{◌≡◌, ◌≢◌, ℕ, ◌+◌, Bool, true, false, not, ◌||◌, ◌&&◌, cond, List, [], ◌∷◌, ◌++◌, length, map, ◌⊎◌}
+use Rattle.std.specs.List.{slice_split}
+use Rattle.ax_lex.specs.declared.token.Token.{Token}
 use Rattle.ax_lines.specs.declared.symbol.Word.{Word}
 use Rattle.ax_lines.specs.declared.symbol.Word.TheVariants as word
 use Rattle.ax_lines.specs.declared.symbol.Punctuation.TheVariants as mark
@@ -10,6 +12,7 @@ use Rattle.ax_lines.specs.declared.statement.Line.{Line}
 use Rattle.ax_lines.specs.declared.statement.Place.{Place}
 use Rattle.ax_lines.specs.declared.statement.Place.TheVariants as place
 use Rattle.ax_lines.specs.Pieces.{sign_at}
+use Rattle.ax_lines.specs.Symbols.{symbol_of, is_feed}
 use Rattle.ax_lines.specs.Grammar.{IsLine}
 use Rattle.ax_lines.specs.Productions.{line_at, place_after, is_label}
 
@@ -23,6 +26,10 @@ InPlace p (l ∷ ls) (x ∷ xs) q = IsLine (line_at p) l x × InPlace (place_aft
 -- the lines of a whole module
 abbrev pub AreLines : List (List Symbol) → List Line → Type 0
 AreLines ls xs = InPlace place.Outside ls xs place.Outside
+
+-- the lines of a text that has these tokens
+abbrev pub lines_of : List ℕ → List Token → List (List Symbol)
+lines_of text tokens = slice_split is_feed (map (symbol_of text) tokens)
 
 -- ---- faults
 

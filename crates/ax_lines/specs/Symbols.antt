@@ -138,5 +138,5 @@ abbrev pub feed_sign : Sign → Bool
 feed_sign sign.Feed = true
 feed_sign _ = false
 
-abbrev pub is_feed : Symbol → Bool
+unfoldable pub is_feed : Symbol → Bool
 is_feed s = feed_sign s.sign

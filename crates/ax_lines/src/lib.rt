@@ -7,6 +7,7 @@ mod calls;
 mod control;
 mod fault;
 mod items;
+mod lines;
 mod listing;
 mod memory;
 mod operand;
@@ -22,5 +23,6 @@ mod types;
 mod words;
 
 pub use fault::LineFault;
+pub use lines::read_lines;
 pub use statement::{Argument, Base, Line, Path, Place, Pointer, Statement, Value};
 pub use symbol::{Punctuation, Sign, Span, Symbol, Word};

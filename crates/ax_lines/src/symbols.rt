@@ -219,6 +219,7 @@ pub fn symbols(alloc: Global, text: &[u8], tokens: &[Token]) -> Result<Vec<Symbo
 }
 
 /// Whether the symbol is a line feed.
+#[tactic(auto, unfolding(crate::specs::Symbols::is_feed))]
 pub fn is_feed(symbol: &Symbol) -> bool
     ensures { result ≡ is_feed symbol.now }
 {

@@ -1,0 +1,167 @@
+-- Lines in their places.
+use Rattle.std.proofs.Common.{◌≡◌, ℕ, ◌+◌, List, [], ◌∷◌, ◌++◌, length, Option, Some, None, refl, sym, ap, subst, ◌∙◌, arith, append_assoc, inl, inr, Bool, true, false, cond, take, drop, one-add, suc, ◌-◌, ◌<◌, ◌≤◌, Bor}
+use Rattle.std.specs.Prelude.{not, MatchOption}
+use Rattle.std.specs.List.{slice_split, onto_first, position_or_len}
+use Rattle.ax_lines.specs.declared.symbol.Symbol.{Symbol}
+use Rattle.ax_lines.specs.declared.statement.Line.{Line}
+use Rattle.ax_lines.specs.declared.statement.Place.{Place}
+use Rattle.ax_lines.specs.declared.statement.Place.TheVariants as place
+use Rattle.std.proofs.lemmas.List.{length-append, append-nil, length-drop, take_all}
+use Rattle.std.proofs.lemmas.Option.{same_Some}
+use Rattle.ax_lines.specs.Grammar.{Grammar, Derives, IsLine, reads, all_of}
+use Rattle.ax_lines.specs.Productions.{line_at, place_after}
+use Rattle.ax_lines.specs.Symbols.{is_feed}
+use Rattle.ax_lines.specs.Lines.{InPlace, AreLines, IsBadLine, IsOpenEnd, IsSyntax, IsOpcode, is_opcode_fault}
+use Rattle.ax_lines.specs.declared.fault.LineFault.{LineFault}
+use Rattle.ax_lines.specs.declared.fault.LineFault.TheVariants.{Syntax, Opcode, Memory}
+use Rattle.ax_lines.specs.Faults.{IsLineFault, NoLine}
+use Rattle.ax_lines.proofs.Exact.{found, all_found}
+
+-- ---- the first line
+
+last_at : (p : Symbol → Bool) (s : Symbol) (ss : List Symbol) (t : Bool) → p s ≡ t → drop (cond (not t) (1 + position_or_len p ss) 0) (s ∷ ss) ≡ [] → (drop (position_or_len p ss) ss ≡ [] → slice_split p ss ≡ take (position_or_len p ss) ss ∷ [])
+    → cond t ([] ∷ slice_split p ss) (onto_first s (slice_split p ss)) ≡ take (cond (not t) (1 + position_or_len p ss) 0) (s ∷ ss) ∷ []
+last_at p s ss true h e more = absurd cc
+last_at p s ss false h e more = rw one-add (rw (more (rw one-add at e)) refl)
+
+first_at : (p : Symbol → Bool) (s : Symbol) (ss : List Symbol) (t : Bool) → p s ≡ t → (y : Symbol) (rest : List Symbol) → drop (cond (not t) (1 + position_or_len p ss) 0) (s ∷ ss) ≡ y ∷ rest → (drop (position_or_len p ss) ss ≡ y ∷ rest → slice_split p ss ≡ take (position_or_len p ss) ss ∷ slice_split p rest)
+    → cond t ([] ∷ slice_split p ss) (onto_first s (slice_split p ss)) ≡ take (cond (not t) (1 + position_or_len p ss) 0) (s ∷ ss) ∷ slice_split p rest
+first_at p s ss true h y rest e more = let same : ss ≡ rest = cc in rw same refl
+first_at p s ss false h y rest e more = rw one-add (rw (more (rw one-add at e)) refl)
+
+pub line_is_last : (p : Symbol → Bool) (ss : List Symbol) → drop (position_or_len p ss) ss ≡ [] → slice_split p ss ≡ take (position_or_len p ss) ss ∷ []
+line_is_last p [] e = refl
+line_is_last p (s ∷ ss) e = last_at p s ss (p s) refl e (line_is_last p ss)
+
+pub line_is_first : (p : Symbol → Bool) (ss : List Symbol) (y : Symbol) (more : List Symbol) → drop (position_or_len p ss) ss ≡ y ∷ more → slice_split p ss ≡ take (position_or_len p ss) ss ∷ slice_split p more
+line_is_first p [] y more e = absurd cc
+line_is_first p (s ∷ ss) y more e = first_at p s ss (p s) refl y more e (line_is_first p ss y more)
+
+-- the same, for what a slice pattern sees
+pub empty_behind : (p : Symbol → Bool) (ss rest : List Symbol) → rest ≡ drop (position_or_len p ss) ss → length rest < 1 → slice_split p ss ≡ take (position_or_len p ss) ss ∷ []
+empty_behind p ss [] e h = line_is_last p ss (sym e)
+empty_behind p ss (y ∷ rest) e h = absurd (omega arith)
+
+pub next_behind : (p : Symbol → Bool) (ss rest : List Symbol) → rest ≡ drop (position_or_len p ss) ss → 1 ≤ length rest
+    → (slice_split p ss ≡ take (position_or_len p ss) ss ∷ slice_split p (take (length rest - 1) (drop 1 rest))) × (length (take (length rest - 1) (drop 1 rest)) < length ss)
+next_behind p ss [] e h = absurd (omega arith)
+next_behind p ss (y ∷ rest) e h =
+    let k : suc (length rest) - 1 ≡ length rest = omega arith in
+    let all : take (suc (length rest) - 1) rest ≡ rest = rw k (take_all (length rest) rest (omega arith)) in
+    rw all (line_is_first p ss y rest (sym e), omega (arith, ap length e, length-drop (position_or_len p ss) ss))
+
+abbrev pub IsFirst : List Symbol → List Symbol → Option (Bor (List Symbol)) → Type 0
+IsFirst ss front o = MatchOption o (slice_split is_feed ss ≡ front ∷ []) (λ rest. (slice_split is_feed ss ≡ front ∷ slice_split is_feed rest.now) × (length rest.now < length ss))
+
+pub has_first : (ss front : List Symbol) (o : Option (Bor (List Symbol))) → IsFirst ss front o → (more : List (List Symbol)) × (slice_split is_feed ss ≡ front ∷ more)
+has_first ss front None h = ([], h)
+has_first ss front (Some rest) h = (slice_split is_feed rest.now, h.0)
+
+-- ---- one line
+
+all_some : {V : Type 0} (o : Option (V × List Symbol)) (v : V) → all_of o ≡ Some v → o ≡ Some (v, [])
+all_some None v e = absurd cc
+all_some (Some (x, [])) v e = ap (λ y. Some (y, [])) (same_Some x v e)
+all_some (Some (x, s ∷ rest)) v e = absurd cc
+
+pub line_found : (g : Grammar Line) (line : List Symbol) (x : Line) → all_of (reads g line) ≡ Some x → IsLine g line x
+line_found g line x e = found g line x [] (all_some (reads g line) x e)
+
+pub line_all : (g : Grammar Line) (line : List Symbol) (x : Line) → IsLine g line x → all_of (reads g line) ≡ Some x
+line_all g line x d = ap all_of (all_found g line x [] d)
+
+pub line_bad : (g : Grammar Line) (line : List Symbol) → all_of (reads g line) ≡ None → (x : Line) → IsLine g line x → ⊥
+line_bad g line e x d = let f = line_all g line x d in cc
+
+line_same : (g : Grammar Line) (line : List Symbol) (x y : Line) → IsLine g line x → IsLine g line y → x ≡ y
+line_same g line x y d f = same_Some x y (sym (line_all g line x d) ∙ line_all g line y f)
+
+-- ---- the walk
+
+-- what was read, the place behind it, and what is left
+pub record Walked (ls : List (List Symbol)) (xs : List Line) (at : Place) (left : List (List Symbol)) : Type 0 where
+  pub read : List (List Symbol)
+  pub whole : ls ≡ read ++ left
+  pub count : length read ≡ length xs
+  pub so_far : InPlace place.Outside read xs at
+
+pub walk_starts : (ls : List (List Symbol)) → Walked ls [] place.Outside ls
+walk_starts ls = record { read = []; whole = refl; count = refl; so_far = refl }
+
+push_line : (p q : Place) (ls : List (List Symbol)) (xs : List Line) (l : List Symbol) (x : Line) → InPlace p ls xs q → IsLine (line_at q) l x → InPlace p (ls ++ l ∷ []) (xs ++ x ∷ []) (place_after q x)
+push_line p q [] [] l x h d = (subst (λ (r : Place). IsLine (line_at r) l x) (sym h) d, ap (λ (r : Place). place_after r x) h)
+push_line p q [] (y ∷ xs) l x h d = absurd h
+push_line p q (m ∷ ls) [] l x h d = absurd h
+push_line p q (m ∷ ls) (y ∷ xs) l x h d = (h.0, push_line (place_after p y) q ls xs l x h.1 d)
+
+pub walk_goes_on : (ls : List (List Symbol)) (xs : List Line) (at : Place) (left : List (List Symbol)) (l : List Symbol) (more : List (List Symbol)) (x : Line) → Walked ls xs at left → left ≡ l ∷ more → all_of (reads (line_at at) l) ≡ Some x → Walked ls (xs ++ x ∷ []) (place_after at x) more
+walk_goes_on ls xs at left l more x w e r = record {
+  read = w.read ++ l ∷ [];
+  whole = w.whole ∙ ap (λ (y : List (List Symbol)). w.read ++ y) e ∙ sym (append_assoc w.read (l ∷ []) more);
+  count = omega (arith, w.count, length-append w.read (l ∷ []), length-append xs (x ∷ []));
+  so_far = push_line place.Outside at w.read xs l x w.so_far (line_found (line_at at) l x r);
+}
+
+walk_bad : (ls : List (List Symbol)) (xs : List Line) (at : Place) (left : List (List Symbol)) (l : List Symbol) (more : List (List Symbol)) (opcode : Bool) → Walked ls xs at left → left ≡ l ∷ more → all_of (reads (line_at at) l) ≡ None → is_opcode_fault at l ≡ opcode → IsBadLine ls (length xs + 1) opcode
+walk_bad ls xs at left l more opcode w e r k = record {
+  before = w.read;
+  line = l;
+  behind = more;
+  whole = w.whole ∙ ap (λ (y : List (List Symbol)). w.read ++ y) e;
+  is = omega (arith, w.count);
+  stated = xs;
+  at = at;
+  in_place = w.so_far;
+  bad = line_bad (line_at at) l r;
+  kind = k;
+}
+
+pub walk_stops : (ls : List (List Symbol)) (xs : List Line) (at : Place) (left : List (List Symbol)) (l : List Symbol) (more : List (List Symbol)) (fault : LineFault) → Walked ls xs at left → left ≡ l ∷ more → NoLine at l (length xs + 1) fault → IsLineFault ls fault
+walk_stops ls xs at left l more (Syntax n) w e h = subst (IsSyntax ls) (sym h.0) (inl (walk_bad ls xs at left l more false w e h.1 h.2))
+walk_stops ls xs at left l more (Opcode n) w e h = subst (IsOpcode ls) (sym h.0) (walk_bad ls xs at left l more true w e h.1 h.2)
+walk_stops ls xs at left l more Memory w e h = tt
+
+pub walk_ends : (ls : List (List Symbol)) (xs : List Line) (at : Place) → Walked ls xs at [] → InPlace place.Outside ls xs at
+walk_ends ls xs at w = subst (λ (y : List (List Symbol)). InPlace place.Outside y xs at) (sym (w.whole ∙ append-nil w.read)) w.so_far
+
+pub walk_open : (ls : List (List Symbol)) (xs : List Line) (at : Place) → Walked ls xs at [] → (at ≡ place.Outside → ⊥) → IsSyntax ls (length xs)
+walk_open ls xs at w ne = inr (record { stated = xs; at = at; in_place = walk_ends ls xs at w; inside = ne; is = omega (arith, w.count, ap length w.whole, length-append w.read []) })
+
+-- ---- only one walk
+
+same_lines : (p q r : Place) (ls : List (List Symbol)) (xs ys : List Line) → InPlace p ls xs q → InPlace p ls ys r → (xs ≡ ys) × (q ≡ r)
+same_lines p q r [] [] [] h k = (refl, sym h ∙ k)
+same_lines p q r [] [] (y ∷ ys) h k = absurd k
+same_lines p q r [] (x ∷ xs) ys h k = absurd h
+same_lines p q r (l ∷ ls) [] ys h k = absurd h
+same_lines p q r (l ∷ ls) (x ∷ xs) [] h k = absurd k
+same_lines p q r (l ∷ ls) (x ∷ xs) (y ∷ ys) h k =
+    let e = line_same (line_at p) l x y h.0 k.0 in
+    let m = same_lines (place_after p x) q r ls xs ys h.1 (subst (λ (z : Line). InPlace (place_after p z) ls ys r) (sym e) k.1) in
+    let f = m.0 in
+    (cc, m.1)
+
+-- the part before a line, and the line
+split_lines : (p q : Place) (before : List (List Symbol)) (l : List Symbol) (behind : List (List Symbol)) (xs : List Line) → InPlace p (before ++ l ∷ behind) xs q → (ys : List Line) × (r : Place) × (x : Line) × InPlace p before ys r × IsLine (line_at r) l x
+split_lines p q [] l behind [] h = absurd h
+split_lines p q [] l behind (x ∷ xs) h = ([], p, x, refl, h.0)
+split_lines p q (m ∷ before) l behind [] h = absurd h
+split_lines p q (m ∷ before) l behind (y ∷ xs) h =
+    let s = split_lines (place_after p y) q before l behind xs h.1 in
+    (y ∷ s.0, s.1, s.2, (h.0, s.3), s.4)
+
+no_bad : (ls : List (List Symbol)) (xs : List Line) (number : ℕ) (opcode : Bool) → AreLines ls xs → IsBadLine ls number opcode → ⊥
+no_bad ls xs number opcode h b =
+    let s = split_lines place.Outside place.Outside b.before b.line b.behind xs (subst (λ (y : List (List Symbol)). InPlace place.Outside y xs place.Outside) b.whole h) in
+    let e = (same_lines place.Outside s.1 b.at b.before s.0 b.stated s.3 b.in_place).1 in
+    b.bad s.2 (subst (λ (r : Place). IsLine (line_at r) b.line s.2) e s.4)
+
+-- lines that are a module have no fault
+pub no_line_fault : (ls : List (List Symbol)) (xs : List Line) (fault : LineFault) → AreLines ls xs → IsLineFault ls fault → fault ≡ Memory
+no_line_fault ls xs (Syntax n) h (inl b) = absurd (no_bad ls xs n false h b)
+no_line_fault ls xs (Syntax n) h (inr o) = absurd (o.inside (same_lines place.Outside o.at place.Outside ls o.stated xs o.in_place h).1)
+no_line_fault ls xs (Opcode n) h b = absurd (no_bad ls xs n true h b)
+no_line_fault ls xs Memory h b = refl
+
+pub same_all : (ls : List (List Symbol)) (xs ys : List Line) → AreLines ls xs → AreLines ls ys → xs ≡ ys
+same_all ls xs ys h k = (same_lines place.Outside place.Outside place.Outside ls xs ys h k).0
