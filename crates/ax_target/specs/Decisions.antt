@@ -1,0 +1,121 @@
+-- Which way an operation is lowered: the decision table.
+use Rattle.std.specs.Prelude.{ℕ, Bool, true, false, ◌&&◌, ◌||◌, nat_eq, nat_le, if◌then◌else◌, List, [], ◌∷◌, find, option_map, unwrap_or}
+use Rattle.std.specs.List.{list_any}
+use Rattle.ax_ops.specs.declared.mark.Op.{Op}
+use Rattle.ax_ops.specs.declared.mark.Op.TheVariants.{Load, Store, Cmpxchg, Rmw, Fence}
+use Rattle.ax_ops.specs.declared.operation.RmwOp.TheVariants.{Xchg, Add, Sub, And, Nand, Or, Xor, Max, Min, UMax, UMin}
+use Rattle.ax_ops.specs.declared.width.Width.{Width}
+use Rattle.ax_ops.specs.Width.{bytes_of}
+use Rattle.ax_target.specs.declared.target.Target.{Target}
+use Rattle.ax_target.specs.declared.target.Target.TheVariants.{X86, Arm, Rv}
+use Rattle.ax_target.specs.declared.decision.Way.{Way}
+use Rattle.ax_target.specs.declared.decision.Way.TheVariants.{Inline, CasLoop, PairLoop, Masked, Sized, Generic}
+use Rattle.ax_target.specs.Targets.{greatest_native}
+
+-- an operation's number tells it from all others
+abbrev pub number_of : Op → ℕ
+number_of Load = 0
+number_of Store = 1
+number_of Cmpxchg = 2
+number_of (Rmw Xchg) = 3
+number_of (Rmw Add) = 4
+number_of (Rmw Sub) = 5
+number_of (Rmw And) = 6
+number_of (Rmw Nand) = 7
+number_of (Rmw Or) = 8
+number_of (Rmw Xor) = 9
+number_of (Rmw Max) = 10
+number_of (Rmw Min) = 11
+number_of (Rmw UMax) = 12
+number_of (Rmw UMin) = 13
+number_of Fence = 14
+
+-- a row of the table: for these targets, operations and sizes in bytes, this way
+pub record Decision : Type 0 where
+  pub targets : Target → Bool
+  pub operations : List Op
+  pub sizes : List ℕ
+  pub way : Way
+
+abbrev pub fits : Target → Op → ℕ → Decision → Bool
+fits target op bytes row =
+    row.targets target && list_any (λ o. nat_eq (number_of o) (number_of op)) row.operations && list_any (nat_eq bytes) row.sizes
+
+abbrev pub x86 : Target → Bool
+x86 (X86 cx16) = true
+x86 _ = false
+
+abbrev pub x86_cx16 : Target → Bool
+x86_cx16 (X86 cx16) = cx16
+x86_cx16 _ = false
+
+abbrev pub aarch64 : Target → Bool
+aarch64 (Arm false) = true
+aarch64 _ = false
+
+abbrev pub aarch64_lse : Target → Bool
+aarch64_lse (Arm lse) = lse
+aarch64_lse _ = false
+
+abbrev pub rv64 : Target → Bool
+rv64 (Rv zabha zacas) = true
+rv64 _ = false
+
+abbrev pub rmws_but_nand : List Op
+rmws_but_nand = Rmw Xchg ∷ Rmw Add ∷ Rmw Sub ∷ Rmw And ∷ Rmw Or ∷ Rmw Xor ∷ Rmw Max ∷ Rmw Min ∷ Rmw UMax ∷ Rmw UMin ∷ []
+
+abbrev pub rmws : List Op
+rmws = Rmw Nand ∷ rmws_but_nand
+
+abbrev pub everything : List Op
+everything = Load ∷ Store ∷ Cmpxchg ∷ rmws
+
+abbrev pub up_to_8 : List ℕ
+up_to_8 = 1 ∷ 2 ∷ 4 ∷ 8 ∷ []
+
+abbrev pub up_to_16 : List ℕ
+up_to_16 = 1 ∷ 2 ∷ 4 ∷ 8 ∷ 16 ∷ []
+
+abbrev pub row : (Target → Bool) → List Op → List ℕ → Way → Decision
+row targets operations sizes way = record { targets = targets; operations = operations; sizes = sizes; way = way }
+
+-- the table, for native accesses; the first row that fits counts
+abbrev pub decisions : List Decision
+decisions =
+    row x86 (Load ∷ Store ∷ Cmpxchg ∷ Rmw Xchg ∷ Rmw Add ∷ Rmw Sub ∷ []) up_to_8 Inline ∷
+    row x86 rmws up_to_8 CasLoop ∷
+    row x86_cx16 (Load ∷ Cmpxchg ∷ []) (16 ∷ []) Inline ∷
+    row x86_cx16 (Store ∷ rmws) (16 ∷ []) CasLoop ∷
+    row aarch64 (Load ∷ Store ∷ []) up_to_8 Inline ∷
+    row aarch64 everything up_to_16 PairLoop ∷
+    row aarch64_lse (Load ∷ Store ∷ Cmpxchg ∷ rmws_but_nand) up_to_8 Inline ∷
+    row aarch64_lse (Rmw Nand ∷ []) up_to_8 CasLoop ∷
+    row aarch64_lse (Load ∷ Cmpxchg ∷ []) (16 ∷ []) Inline ∷
+    row aarch64_lse (Store ∷ rmws) (16 ∷ []) CasLoop ∷
+    row rv64 (Load ∷ Store ∷ []) up_to_8 Inline ∷
+    row rv64 rmws_but_nand (4 ∷ 8 ∷ []) Inline ∷
+    row rv64 (Rmw Nand ∷ Cmpxchg ∷ []) (4 ∷ 8 ∷ []) PairLoop ∷
+    row rv64 (Cmpxchg ∷ rmws) (1 ∷ 2 ∷ []) Masked ∷ []
+
+-- the way of a native access; each has a row
+abbrev pub native_way : Target → Op → ℕ → Way
+native_way target op bytes = unwrap_or (option_map (λ row. row.way) (find (fits target op bytes) decisions)) Inline
+
+-- where the size is above the greatest native one or the alignment below the size, a routine is called
+abbrev pub is_native : Target → ℕ → ℕ → Bool
+is_native target bytes align = nat_le bytes (greatest_native target) && nat_le bytes align
+
+abbrev pub access_way : Target → Op → ℕ → ℕ → Way
+access_way target op bytes align =
+    if is_native target bytes align then native_way target op bytes
+    else if nat_le bytes align then Sized
+    else Generic
+
+-- a fence has no size
+abbrev pub decided : Target → Op → Width → ℕ → Way
+decided target Fence width align = Inline
+decided target op width align = access_way target op (bytes_of width) align
+
+-- the targets that have loops round a compare-and-swap
+abbrev pub has_compare_loops : Target → Bool
+has_compare_loops target = x86 target || aarch64_lse target
