@@ -1,0 +1,32 @@
+//! The instructions of an operation: its row of the mapping table.
+
+ghost use Rattle.std.specs.Prelude.{◌≡◌};
+ghost use Rattle.ax_target.specs.Rows.{row_of};
+
+use crate::decision::Way;
+use crate::target::Target;
+use crate::{arm_rows, calls, rv_rows, x86_rows};
+use arrayvec::ArrayVec;
+use ax_ops::{Mark, Op, Order, Width};
+
+/// The memory, fence and call instructions of an operation that is lowered some way, in order, as
+/// the mapping table has them. The order is one that the operation may have; that of a
+/// compare-exchange is its two orders merged.
+pub fn row(t: Target, op: Op, order: Order, width: Width, way: Way) -> ArrayVec<Mark, 6>
+    ensures { result.items ≡ row_of t op order width way }
+{
+    match (way, t) {
+        (Way::Sized, _) => calls::sized_row(op, width),
+        (Way::Generic, _) => calls::generic_row(op),
+        (Way::Inline, Target::X86 { .. }) => x86_rows::inline(op, order, width),
+        (Way::CasLoop, Target::X86 { .. }) => x86_rows::compare_loop(width),
+        (Way::Inline, Target::Arm { lse: false }) => arm_rows::inline(op, order, width),
+        (Way::PairLoop, Target::Arm { lse: false }) => arm_rows::pair_loop(op, order, width),
+        (Way::Inline, Target::Arm { lse: true }) => arm_rows::lse_row(op, order, width),
+        (Way::CasLoop, Target::Arm { lse: true }) => arm_rows::compare_loop(order, width),
+        (Way::Inline, Target::Rv { .. }) => rv_rows::inline(op, order, width),
+        (Way::PairLoop, Target::Rv { .. }) => rv_rows::pair_loop(order, width),
+        (Way::Masked, Target::Rv { .. }) => rv_rows::pair_loop(order, Width::W32),
+        _ => ArrayVec::new(),
+    }
+}
