@@ -19,3 +19,6 @@ pub use table::{
     ArmLse, ArmPlain, RvPlain, TargetTable, X86Cx16, X86Plain, buffered, max_native, pairs,
 };
 pub use target::{Target, named};
+
+#[cfg(test)]
+mod tests;
