@@ -1,5 +1,5 @@
 -- The rows of AArch64, without and with LSE (Arm Architecture Reference Manual, "Load-Acquire, Store-Release", "Large System Extensions").
-use Rattle.std.specs.Prelude.{ℕ, if◌then◌else◌, List, [], ◌∷◌, Option, Some, None, option_map, option_to_list}
+use Rattle.std.specs.Prelude.{if◌then◌else◌, List, [], ◌∷◌, Option, Some, None, option_map, option_to_list}
 use Rattle.ax_ops.specs.declared.order.Order.{Order}
 use Rattle.ax_ops.specs.declared.order.Order.TheVariants.{Acquire, Release, AcqRel, SeqCst}
 use Rattle.ax_ops.specs.declared.operation.RmwOp.{RmwOp}

@@ -1,6 +1,6 @@
 -- Which way an operation is lowered: the decision table.
-use Rattle.std.specs.Prelude.{ℕ, Bool, true, false, ◌&&◌, ◌||◌, nat_eq, nat_le, if◌then◌else◌, List, [], ◌∷◌, find, option_map, unwrap_or}
-use Rattle.std.specs.List.{list_any}
+use Rattle.std.specs.Prelude.{ℕ, Bool, true, false, ◌&&◌, ◌||◌, nat_eq, nat_lt, nat_le, is_some, if◌then◌else◌, List, [], ◌∷◌, find, option_map, unwrap_or}
+use Rattle.std.specs.List.{list_all, list_any}
 use Rattle.ax_ops.specs.declared.mark.Op.{Op}
 use Rattle.ax_ops.specs.declared.mark.Op.TheVariants.{Load, Store, Cmpxchg, Rmw, Fence}
 use Rattle.ax_ops.specs.declared.operation.RmwOp.TheVariants.{Xchg, Add, Sub, And, Nand, Or, Xor, Max, Min, UMax, UMin}
@@ -10,7 +10,7 @@ use Rattle.ax_target.specs.declared.target.Target.{Target}
 use Rattle.ax_target.specs.declared.target.Target.TheVariants.{X86, Arm, Rv}
 use Rattle.ax_target.specs.declared.decision.Way.{Way}
 use Rattle.ax_target.specs.declared.decision.Way.TheVariants.{Inline, CasLoop, PairLoop, Masked, Sized, Generic}
-use Rattle.ax_target.specs.Targets.{greatest_native}
+use Rattle.ax_target.specs.Targets.{greatest_native, has_pairs}
 
 -- an operation's number tells it from all others
 abbrev pub number_of : Op → ℕ
@@ -119,3 +119,22 @@ decided target op width align = access_way target op (bytes_of width) align
 -- the targets that have loops round a compare-and-swap
 abbrev pub has_compare_loops : Target → Bool
 has_compare_loops target = x86 target || aarch64_lse target
+
+-- whether a native access of this target and size can be lowered this way
+abbrev pub is_native_way : Target → ℕ → Way → Bool
+is_native_way target bytes Inline = true
+is_native_way target bytes CasLoop = has_compare_loops target
+is_native_way target bytes PairLoop = has_pairs target
+is_native_way target bytes Masked = rv64 target && nat_le bytes 2
+is_native_way target bytes Sized = false
+is_native_way target bytes Generic = false
+
+-- and whether any access can
+abbrev pub can_be : Target → ℕ → ℕ → Way → Bool
+can_be target bytes align Sized = nat_lt (greatest_native target) bytes && nat_le bytes align
+can_be target bytes align Generic = nat_lt align bytes
+can_be target bytes align way = is_native_way target bytes way
+
+-- whether the table has a line for each native access of a target
+abbrev pub is_whole : Target → Bool
+is_whole target = list_all (λ op. list_all (λ bytes. nat_lt (greatest_native target) bytes || is_some (find (fits target op bytes) decisions)) up_to_16) everything

@@ -1,15 +1,22 @@
 -- The instructions of an operation: its row of the mapping table.
-use Rattle.std.specs.Prelude.{List, [], ◌∷◌, map, true, false}
+use Rattle.std.specs.Prelude.{ℕ, Bool, true, false, not, ◌&&◌, ◌||◌, nat_lt, List, [], ◌∷◌, length, map}
+use Rattle.std.specs.List.{list_all}
 use Rattle.ax_ops.specs.declared.order.Order.{Order}
+use Rattle.ax_ops.specs.declared.order.Access.{Access}
+use Rattle.ax_ops.specs.declared.order.Access.TheVariants.{Load as Loads, Store as Stores, Rmw as Rmws, CmpSuccess, Fence as Fences}
 use Rattle.ax_ops.specs.declared.width.Width.{Width}
+use Rattle.ax_ops.specs.declared.width.Width.TheVariants.{W8, W16, W32, W64, W128}
 use Rattle.ax_ops.specs.declared.mark.Op.{Op}
+use Rattle.ax_ops.specs.declared.mark.Op.TheVariants.{Load, Store, Cmpxchg, Rmw, Fence}
 use Rattle.ax_ops.specs.declared.mark.Mark.{Mark}
 use Rattle.ax_ops.specs.declared.mark.Mark.TheVariants.{Call}
+use Rattle.ax_ops.specs.Orders.{rising, is_legal}
 use Rattle.ax_ops.specs.Width.{bytes_of}
 use Rattle.ax_target.specs.declared.target.Target.{Target}
 use Rattle.ax_target.specs.declared.target.Target.TheVariants.{X86, Arm, Rv}
 use Rattle.ax_target.specs.declared.decision.Way.{Way}
 use Rattle.ax_target.specs.declared.decision.Way.TheVariants.{Inline, CasLoop, PairLoop, Masked, Sized, Generic}
+use Rattle.ax_target.specs.Decisions.{everything, decided}
 use Rattle.ax_target.specs.X86Rows.{x86_inline, x86_loop}
 use Rattle.ax_target.specs.ArmRows.{arm_inline, arm_pair, lse_inline, lse_loop}
 use Rattle.ax_target.specs.RvRows.{rv_inline, rv_pair}
@@ -29,3 +36,19 @@ row_of (Rv zabha zacas) op order width Inline = rv_inline op order (bytes_of wid
 row_of (Rv zabha zacas) op order width PairLoop = rv_pair order (bytes_of width)
 row_of (Rv zabha zacas) op order width Masked = rv_pair order 4
 row_of target op order width way = []
+
+-- where the order of an operation stands; a compare-exchange has its two orders merged
+abbrev pub access_of : Op → Access
+access_of Load = Loads
+access_of Store = Stores
+access_of Cmpxchg = CmpSuccess
+access_of (Rmw op) = Rmws
+access_of Fence = Fences
+
+abbrev pub has_row : Target → Op → Order → Width → ℕ → Bool
+has_row target op order width align = not (is_legal (access_of op) order) || nat_lt 0 (length (row_of target op order width (decided target op width align)))
+
+-- whether each operation has a row at each width, in each order that it may have, at the width's alignment and below it
+abbrev pub has_rows : Target → Bool
+has_rows target =
+    list_all (λ op. list_all (λ width. list_all (λ order. has_row target op order width (bytes_of width) && has_row target op order width 0) rising) (W8 ∷ W16 ∷ W32 ∷ W64 ∷ W128 ∷ [])) everything

@@ -1,9 +1,9 @@
 //! Which way an operation is lowered.
 
-ghost use Rattle.std.specs.Prelude.{◌≡◌, ◌≢◌, ◌≤◌, ◌<◌, ◌↔◌, ◌⊎◌, true, false, IsTrue};
+ghost use Rattle.std.specs.Prelude.{◌≡◌, ◌≢◌, ◌≤◌, ◌<◌, ◌↔◌, ◌⊎◌, ℕ, true, false, IsTrue};
 ghost use Rattle.ax_ops.specs.Width.{bytes_of};
 ghost use Rattle.ax_target.specs.Targets.{greatest_native, has_pairs};
-ghost use Rattle.ax_target.specs.Decisions.{decided, native_way, has_compare_loops, rv64};
+ghost use Rattle.ax_target.specs.Decisions.{can_be, decided, is_whole, native_way, has_compare_loops, rv64};
 
 use crate::table::max_native;
 use crate::target::Target;
@@ -106,3 +106,11 @@ fn rv_way(op: Op, width: Width) -> Way
         _ => Way::Inline,
     }
 }
+
+/// Each native access has a line of the decision table, and a way tells something of its access.
+#[tactic(auto, using(crate::proofs::Decisions::decided_can_be))]
+pub fn decisions_hold()
+    ensures whole { (t : Target) → IsTrue (is_whole t) }
+    ensures fence { (t : Target) (width : Width) (align : ℕ) → decided t Op.Fence width align ≡ Way.Inline }
+    ensures ways { (t : Target) (op : Op) (width : Width) (align : ℕ) → IsTrue (can_be t (bytes_of width) align (decided t op width align)) }
+{}

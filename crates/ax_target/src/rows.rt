@@ -1,7 +1,7 @@
 //! The instructions of an operation: its row of the mapping table.
 
-ghost use Rattle.std.specs.Prelude.{◌≡◌};
-ghost use Rattle.ax_target.specs.Rows.{row_of};
+ghost use Rattle.std.specs.Prelude.{◌≡◌, ◌≤◌, IsTrue, length};
+ghost use Rattle.ax_target.specs.Rows.{has_rows, row_of};
 
 use crate::decision::Way;
 use crate::target::Target;
@@ -30,3 +30,10 @@ pub fn row(t: Target, op: Op, order: Order, width: Width, way: Way) -> ArrayVec<
         _ => ArrayVec::new(),
     }
 }
+
+/// Each operation has a row at each width, in each order that it may have. An unordered access has the row of a monotonic one, and no row has more than three marks.
+pub fn rows_hold()
+    ensures whole { (t : Target) → IsTrue (has_rows t) }
+    ensures unordered { (t : Target) (op : Op) (width : Width) (way : Way) → row_of t op Order.Unordered width way ≡ row_of t op Order.Monotonic width way }
+    ensures short { (t : Target) (op : Op) (order : Order) (width : Width) (way : Way) → length (row_of t op order width way) ≤ 3 }
+{}

@@ -193,3 +193,12 @@ pub fn pairs(t: Target) -> bool
         Target::Rv { .. } => RvPlain::PAIRS,
     }
 }
+
+/// The type of each name stands for the target of that name.
+pub fn tables_hold()
+    ensures x86 { ⟦<X86Plain as TargetTable>⟧.target ≡ Target.X86 false }
+    ensures x86_cx16 { ⟦<X86Cx16 as TargetTable>⟧.target ≡ Target.X86 true }
+    ensures aarch64 { ⟦<ArmPlain as TargetTable>⟧.target ≡ Target.Arm false }
+    ensures aarch64_lse { ⟦<ArmLse as TargetTable>⟧.target ≡ Target.Arm true }
+    ensures rv64 { ⟦<RvPlain as TargetTable>⟧.target ≡ Target.Rv false false }
+{}
