@@ -47,14 +47,21 @@ generic_calls Cmpxchg = CompareExchange ∷ []
 generic_calls (Rmw op) = Load ∷ CompareExchange ∷ []
 generic_calls Fence = []
 
+-- the words in their names, in the same order
 abbrev pub ten_words : List (List ℕ)
 ten_words =
     codes "load" ∷ codes "store" ∷ codes "exchange" ∷ codes "compare_exchange" ∷ codes "fetch_add" ∷
     codes "fetch_sub" ∷ codes "fetch_and" ∷ codes "fetch_or" ∷ codes "fetch_xor" ∷ codes "fetch_nand" ∷ []
 
--- their names: `__atomic_`, the word, `_`, and the size
-abbrev pub sized_names : List ℕ → List (List ℕ)
-sized_names size = map (λ word. codes "__atomic_" ++ word ++ codes "_" ++ size) ten_words
+abbrev pub size_word : Width → List ℕ
+size_word W8 = codes "1"
+size_word W16 = codes "2"
+size_word W32 = codes "4"
+size_word W64 = codes "8"
+size_word W128 = codes "16"
+
+abbrev pub sized_names : Width → List (List ℕ)
+sized_names width = map (λ word. codes "__atomic_" ++ word ++ codes "_" ++ size_word width) ten_words
 
 abbrev pub listed : SizedRoutines → List RoutineName
 listed r = r.load ∷ r.store ∷ r.exchange ∷ r.compare_exchange ∷ r.fetch_add ∷ r.fetch_sub ∷ r.fetch_and ∷ r.fetch_or ∷ r.fetch_xor ∷ r.fetch_nand ∷ []

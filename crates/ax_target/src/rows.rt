@@ -1,6 +1,8 @@
 //! The instructions of an operation: its row of the mapping table.
 
-ghost use Rattle.std.specs.Prelude.{◌≡◌, ◌≤◌, IsTrue, length};
+ghost use Rattle.std.specs.Prelude.{◌≡◌, ◌≤◌, IsTrue, length, map};
+ghost use Rattle.ax_ops.specs.Routine.{name_of};
+ghost use Rattle.ax_target.specs.Calls.{listed, routines_of, sized_names};
 ghost use Rattle.ax_target.specs.Rows.{has_rows, row_of};
 
 use crate::decision::Way;
@@ -36,4 +38,9 @@ pub fn rows_hold()
     ensures whole { (t : Target) → IsTrue (has_rows t) }
     ensures unordered { (t : Target) (op : Op) (width : Width) (way : Way) → row_of t op Order.Unordered width way ≡ row_of t op Order.Monotonic width way }
     ensures short { (t : Target) (op : Op) (order : Order) (width : Width) (way : Way) → length (row_of t op order width way) ≤ 3 }
+{}
+
+/// The routines of a size have its number at the end of their names (GCC libatomic ABI).
+pub fn calls_are_named()
+    ensures { (width : Width) → map name_of (listed (routines_of width)) ≡ sized_names width }
 {}
