@@ -30,7 +30,7 @@ number_of (Rmw UMax) = 12
 number_of (Rmw UMin) = 13
 number_of Fence = 14
 
--- a row of the table: for these targets, operations and sizes in bytes, this way
+-- a line of the table: for these targets, operations and sizes in bytes, this way
 pub record Decision : Type 0 where
   pub targets : Target → Bool
   pub operations : List Op
@@ -38,28 +38,28 @@ pub record Decision : Type 0 where
   pub way : Way
 
 abbrev pub fits : Target → Op → ℕ → Decision → Bool
-fits target op bytes row =
-    row.targets target && list_any (λ o. nat_eq (number_of o) (number_of op)) row.operations && list_any (nat_eq bytes) row.sizes
+fits target op bytes line =
+    line.targets target && list_any (λ o. nat_eq (number_of o) (number_of op)) line.operations && list_any (nat_eq bytes) line.sizes
 
-abbrev pub x86 : Target → Bool
-x86 (X86 cx16) = true
-x86 _ = false
+abbrev pub is_x86 : Target → Bool
+is_x86 (X86 cx16) = true
+is_x86 _ = false
 
-abbrev pub x86_cx16 : Target → Bool
-x86_cx16 (X86 cx16) = cx16
-x86_cx16 _ = false
+abbrev pub is_x86_cx16 : Target → Bool
+is_x86_cx16 (X86 cx16) = cx16
+is_x86_cx16 _ = false
 
-abbrev pub aarch64 : Target → Bool
-aarch64 (Arm false) = true
-aarch64 _ = false
+abbrev pub is_aarch64 : Target → Bool
+is_aarch64 (Arm false) = true
+is_aarch64 _ = false
 
-abbrev pub aarch64_lse : Target → Bool
-aarch64_lse (Arm lse) = lse
-aarch64_lse _ = false
+abbrev pub is_aarch64_lse : Target → Bool
+is_aarch64_lse (Arm lse) = lse
+is_aarch64_lse _ = false
 
-abbrev pub rv64 : Target → Bool
-rv64 (Rv zabha zacas) = true
-rv64 _ = false
+abbrev pub is_rv64 : Target → Bool
+is_rv64 (Rv zabha zacas) = true
+is_rv64 _ = false
 
 abbrev pub rmws_but_nand : List Op
 rmws_but_nand = Rmw Xchg ∷ Rmw Add ∷ Rmw Sub ∷ Rmw And ∷ Rmw Or ∷ Rmw Xor ∷ Rmw Max ∷ Rmw Min ∷ Rmw UMax ∷ Rmw UMin ∷ []
@@ -76,30 +76,30 @@ up_to_8 = 1 ∷ 2 ∷ 4 ∷ 8 ∷ []
 abbrev pub up_to_16 : List ℕ
 up_to_16 = 1 ∷ 2 ∷ 4 ∷ 8 ∷ 16 ∷ []
 
-abbrev pub row : (Target → Bool) → List Op → List ℕ → Way → Decision
-row targets operations sizes way = record { targets = targets; operations = operations; sizes = sizes; way = way }
+abbrev pub line : (Target → Bool) → List Op → List ℕ → Way → Decision
+line targets operations sizes way = record { targets = targets; operations = operations; sizes = sizes; way = way }
 
--- the table, for native accesses; the first row that fits counts
+-- the table, for native accesses; the first line that fits counts
 abbrev pub decisions : List Decision
 decisions =
-    row x86 (Load ∷ Store ∷ Cmpxchg ∷ Rmw Xchg ∷ Rmw Add ∷ Rmw Sub ∷ []) up_to_8 Inline ∷
-    row x86 rmws up_to_8 CasLoop ∷
-    row x86_cx16 (Load ∷ Cmpxchg ∷ []) (16 ∷ []) Inline ∷
-    row x86_cx16 (Store ∷ rmws) (16 ∷ []) CasLoop ∷
-    row aarch64 (Load ∷ Store ∷ []) up_to_8 Inline ∷
-    row aarch64 everything up_to_16 PairLoop ∷
-    row aarch64_lse (Load ∷ Store ∷ Cmpxchg ∷ rmws_but_nand) up_to_8 Inline ∷
-    row aarch64_lse (Rmw Nand ∷ []) up_to_8 CasLoop ∷
-    row aarch64_lse (Load ∷ Cmpxchg ∷ []) (16 ∷ []) Inline ∷
-    row aarch64_lse (Store ∷ rmws) (16 ∷ []) CasLoop ∷
-    row rv64 (Load ∷ Store ∷ []) up_to_8 Inline ∷
-    row rv64 rmws_but_nand (4 ∷ 8 ∷ []) Inline ∷
-    row rv64 (Rmw Nand ∷ Cmpxchg ∷ []) (4 ∷ 8 ∷ []) PairLoop ∷
-    row rv64 (Cmpxchg ∷ rmws) (1 ∷ 2 ∷ []) Masked ∷ []
+    line is_x86 (Load ∷ Store ∷ Cmpxchg ∷ Rmw Xchg ∷ Rmw Add ∷ Rmw Sub ∷ []) up_to_8 Inline ∷
+    line is_x86 rmws up_to_8 CasLoop ∷
+    line is_x86_cx16 (Load ∷ Cmpxchg ∷ []) (16 ∷ []) Inline ∷
+    line is_x86_cx16 (Store ∷ rmws) (16 ∷ []) CasLoop ∷
+    line is_aarch64 (Load ∷ Store ∷ []) up_to_8 Inline ∷
+    line is_aarch64 everything up_to_16 PairLoop ∷
+    line is_aarch64_lse (Load ∷ Store ∷ Cmpxchg ∷ rmws_but_nand) up_to_8 Inline ∷
+    line is_aarch64_lse (Rmw Nand ∷ []) up_to_8 CasLoop ∷
+    line is_aarch64_lse (Load ∷ Cmpxchg ∷ []) (16 ∷ []) Inline ∷
+    line is_aarch64_lse (Store ∷ rmws) (16 ∷ []) CasLoop ∷
+    line is_rv64 (Load ∷ Store ∷ []) up_to_8 Inline ∷
+    line is_rv64 rmws_but_nand (4 ∷ 8 ∷ []) Inline ∷
+    line is_rv64 (Rmw Nand ∷ Cmpxchg ∷ []) (4 ∷ 8 ∷ []) PairLoop ∷
+    line is_rv64 (Cmpxchg ∷ rmws) (1 ∷ 2 ∷ []) Masked ∷ []
 
--- the way of a native access; each has a row
+-- the way of a native access; each has a line
 abbrev pub native_way : Target → Op → ℕ → Way
-native_way target op bytes = unwrap_or (option_map (λ row. row.way) (find (fits target op bytes) decisions)) Inline
+native_way target op bytes = unwrap_or (option_map (λ line. line.way) (find (fits target op bytes) decisions)) Inline
 
 -- where the size is above the greatest native one or the alignment below the size, a routine is called
 abbrev pub is_native : Target → ℕ → ℕ → Bool
@@ -118,14 +118,14 @@ decided target op width align = access_way target op (bytes_of width) align
 
 -- the targets that have loops round a compare-and-swap
 abbrev pub has_compare_loops : Target → Bool
-has_compare_loops target = x86 target || aarch64_lse target
+has_compare_loops target = is_x86 target || is_aarch64_lse target
 
 -- whether a native access of this target and size can be lowered this way
 abbrev pub is_native_way : Target → ℕ → Way → Bool
 is_native_way target bytes Inline = true
 is_native_way target bytes CasLoop = has_compare_loops target
 is_native_way target bytes PairLoop = has_pairs target
-is_native_way target bytes Masked = rv64 target && nat_le bytes 2
+is_native_way target bytes Masked = is_rv64 target && nat_le bytes 2
 is_native_way target bytes Sized = false
 is_native_way target bytes Generic = false
 

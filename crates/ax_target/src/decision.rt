@@ -3,7 +3,7 @@
 ghost use Rattle.std.specs.Prelude.{◌≡◌, ◌≢◌, ◌≤◌, ◌<◌, ◌↔◌, ◌⊎◌, ℕ, true, false, IsTrue};
 ghost use Rattle.ax_ops.specs.Width.{bytes_of};
 ghost use Rattle.ax_target.specs.Targets.{greatest_native, has_pairs};
-ghost use Rattle.ax_target.specs.Decisions.{can_be, decided, is_whole, native_way, has_compare_loops, rv64};
+ghost use Rattle.ax_target.specs.Decisions.{can_be, decided, is_whole, native_way, has_compare_loops, is_rv64};
 
 use crate::table::max_native;
 use crate::target::Target;
@@ -33,7 +33,7 @@ pub fn decide(t: Target, op: Op, width: Width, align: u64) -> Way
     ensures fence { op ≡ Op.Fence → result ≡ Way.Inline }
     ensures sized { (result ≡ Way.Sized) ↔ ((op ≢ Op.Fence) × (greatest_native t < bytes_of width) × (bytes_of width ≤ align)) }
     ensures generic { (result ≡ Way.Generic) ↔ ((op ≢ Op.Fence) × (align < bytes_of width)) }
-    ensures masked { result ≡ Way.Masked → IsTrue (rv64 t) × (bytes_of width ≤ 2) }
+    ensures masked { result ≡ Way.Masked → IsTrue (is_rv64 t) × (bytes_of width ≤ 2) }
     ensures pairs { result ≡ Way.PairLoop → IsTrue (has_pairs t) }
     ensures compares { result ≡ Way.CasLoop → IsTrue (has_compare_loops t) }
 {

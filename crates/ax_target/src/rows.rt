@@ -13,7 +13,8 @@ use ax_ops::{Mark, Op, Order, Width};
 
 /// The memory, fence and call instructions of an operation that is lowered some way, in order, as
 /// the mapping table has them. The order is one that the operation may have; that of a
-/// compare-exchange is its two orders merged.
+/// compare-exchange is its two orders merged. The way is one that `decide` gives for the operation
+/// and width at some alignment; for another way or order the row means nothing.
 pub fn row(t: Target, op: Op, order: Order, width: Width, way: Way) -> ArrayVec<Mark, 6>
     ensures { result.items ≡ row_of t op order width way }
 {
@@ -33,7 +34,8 @@ pub fn row(t: Target, op: Op, order: Order, width: Width, way: Way) -> ArrayVec<
     }
 }
 
-/// Each operation has a row at each width, in each order that it may have. An unordered access has the row of a monotonic one, and no row has more than three marks.
+/// Each operation has a row at each width, in each order that it may have. An unordered access has
+/// the row of a monotonic one, and no row has more than three marks.
 pub fn rows_hold()
     ensures whole { (t : Target) → IsTrue (has_rows t) }
     ensures unordered { (t : Target) (op : Op) (width : Width) (way : Way) → row_of t op Order.Unordered width way ≡ row_of t op Order.Monotonic width way }
