@@ -47,6 +47,19 @@ fn names_and_what_each_target_has(rt: HostRuntime) {
     }
 }
 
+fn constants<T: TargetTable>() -> (usize, bool, bool) {
+    (T::MAX_NATIVE, T::BUFFERED, T::PAIRS)
+}
+
+#[test]
+fn types_have_the_constants_of_their_targets(rt: HostRuntime) {
+    assert_eq!(rt; constants::<X86Plain>(), (8, true, false));
+    assert_eq!(rt; constants::<X86Cx16>(), (16, true, false));
+    assert_eq!(rt; constants::<ArmPlain>(), (16, false, true));
+    assert_eq!(rt; constants::<ArmLse>(), (16, false, true));
+    assert_eq!(rt; constants::<RvPlain>(), (8, false, true));
+}
+
 /// An instruction of a line of the mapping table: an access of the object, or a fence.
 #[derive(Clone, Copy)]
 enum Item {
