@@ -1,5 +1,5 @@
 -- The `>` of vectors one in the other.
-use Rattle.std.proofs.Common.{◌≡◌, ℕ, zero, suc, ◌+◌, ◌-◌, ◌<◌, arith, List, [], ◌∷◌, length, Option, Some, None, refl, ap}
+use Rattle.std.proofs.Common.{◌≡◌, ℕ, zero, suc, ◌+◌, ◌-◌, ◌<◌, arith, List, [], ◌∷◌, length, Option, None, refl, ap}
 use Rattle.ax_ir.specs.declared.types.Ty.{Ty}
 use Rattle.ax_lines.specs.declared.symbol.Symbol.{Symbol}
 use Rattle.ax_lines.specs.Pieces.{one_at, simple_type_of, type_at, closed}

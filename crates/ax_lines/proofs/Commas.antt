@@ -1,10 +1,9 @@
 -- Pieces parted by commas, as a loop reads them.
-use Rattle.std.proofs.Common.{◌≡◌, ℕ, zero, suc, ◌<◌, ◌≤◌, List, [], ◌∷◌, ◌++◌, length, Option, Some, None, refl, sym, ap, subst, ◌∙◌, arith, append_assoc}
-use Rattle.std.specs.Option.{option_map, option_and_then}
-use Rattle.std.proofs.lemmas.List.{append-nil}
+use Rattle.std.proofs.Common.{◌≡◌, ℕ, zero, suc, ◌<◌, List, [], ◌∷◌, ◌++◌, length, Option, Some, None, refl, sym, ap, ◌∙◌, arith, append_assoc}
+use Rattle.std.specs.Option.{option_map}
 use Rattle.ax_lines.specs.declared.symbol.Symbol.{Symbol}
 use Rattle.ax_lines.specs.Pieces.{strip}
-use Rattle.ax_lines.specs.Grammar.{Grammar, Derives, comma, either, and_more, listed, reads}
+use Rattle.ax_lines.specs.Grammar.{Grammar, comma, and_more, listed, reads}
 use Rattle.ax_lines.proofs.Exact.{strip_splits, lengths, found, shrinks}
 
 -- what was read before, and what is still read

@@ -1,7 +1,6 @@
 -- Reading gives what a grammar derives, and all that it derives.
-use Rattle.std.proofs.Common.{◌≡◌, ℕ, zero, suc, ◌+◌, ◌<◌, ◌≤◌, arith, Bool, true, false, cond, List, [], ◌∷◌, ◌++◌, length, map, Option, Some, None, refl, sym, ap, subst, ◌∙◌, inl, inr}
+use Rattle.std.proofs.Common.{◌≡◌, ℕ, zero, suc, ◌+◌, ◌<◌, ◌≤◌, arith, Bool, true, false, cond, List, [], ◌∷◌, ◌++◌, length, Option, Some, None, refl, sym, ap, subst, ◌∙◌, inl, inr}
 use Rattle.std.specs.Prelude.{◌⊎◌}
-use Rattle.std.specs.Bool.{Decides}
 use Rattle.std.specs.Option.{option_and_then, option_map}
 use Rattle.std.proofs.lemmas.Bool.{cases_Bool}
 use Rattle.std.proofs.lemmas.List.{length-append, length-map}
@@ -11,8 +10,7 @@ use Rattle.ax_lines.specs.declared.symbol.Symbol.{Symbol}
 use Rattle.ax_lines.specs.Signs.{same_sign}
 use Rattle.ax_ir.specs.declared.types.Ty.{Ty}
 use Rattle.ax_ir.specs.declared.types.Ty.TheVariants as ty
-use Rattle.ax_lines.specs.declared.pass.Pass.{Pass}
-use Rattle.ax_lines.specs.Pieces.{strip, one_at, sign_at, pass_over, behind_items, type_at, closed, is_greater, opens_vector, simple_type_of, is_tail}
+use Rattle.ax_lines.specs.Pieces.{strip, one_at, sign_at, pass_over, type_at, closed, is_greater, opens_vector, simple_type_of, is_tail}
 use Rattle.ax_lines.specs.Grammar.{Grammar, gives, then, signs, one, passed, typed, when, option, by, list, tail, ends, whole, none, signs_of, comma, Splits, Listed, last, more, Derives, ended, either, and_more, listed, reads}
 use Rattle.ax_lines.proofs.SameSign.{decides_sign}
 use Rattle.ax_lines.proofs.Passing.{items_shrink}

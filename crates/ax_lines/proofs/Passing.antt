@@ -1,5 +1,5 @@
 -- What is passed over, item by item.
-use Rattle.std.proofs.Common.{◌≡◌, ℕ, zero, suc, ◌+◌, ◌-◌, ◌<◌, ◌≤◌, min, arith, Bool, true, false, cond, List, [], ◌∷◌, length, drop, refl, sym, ap, ◌∙◌}
+use Rattle.std.proofs.Common.{◌≡◌, ℕ, zero, suc, ◌≤◌, min, arith, cond, List, [], ◌∷◌, length, drop, refl, sym, ap, ◌∙◌}
 use Rattle.std.specs.Prelude.{pred}
 use Rattle.ax_lines.specs.declared.symbol.Symbol.{Symbol}
 use Rattle.ax_lines.specs.declared.pass.Pass.{Pass}

@@ -8,10 +8,10 @@ use Rattle.ax_lines.specs.declared.statement.Place.{Place}
 use Rattle.ax_lines.specs.declared.statement.Place.TheVariants as place
 use Rattle.std.proofs.lemmas.List.{length-append, append-nil, length-drop, take_all}
 use Rattle.std.proofs.lemmas.Option.{same_Some}
-use Rattle.ax_lines.specs.Grammar.{Grammar, Derives, IsLine, reads, all_of}
+use Rattle.ax_lines.specs.Grammar.{Grammar, IsLine, reads, all_of}
 use Rattle.ax_lines.specs.Productions.{line_at, place_after}
 use Rattle.ax_lines.specs.Symbols.{is_feed}
-use Rattle.ax_lines.specs.Lines.{InPlace, AreLines, IsBadLine, IsOpenEnd, IsSyntax, IsOpcode, is_opcode_fault}
+use Rattle.ax_lines.specs.Lines.{InPlace, AreLines, IsBadLine, IsSyntax, IsOpcode, is_opcode_fault}
 use Rattle.ax_lines.specs.declared.fault.LineFault.{LineFault}
 use Rattle.ax_lines.specs.declared.fault.LineFault.TheVariants.{Syntax, Opcode, Memory}
 use Rattle.ax_lines.specs.Faults.{IsLineFault, NoLine}

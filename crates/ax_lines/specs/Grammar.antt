@@ -1,5 +1,5 @@
 -- Grammars of a line, and the lines that they derive.
-use Rattle.std.specs.Prelude.{◌≡◌, ℕ, zero, suc, Bool, true, false, cond, List, [], ◌∷◌, ◌++◌, length, map, Option, Some, None, ◌⊎◌}
+use Rattle.std.specs.Prelude.{◌≡◌, ℕ, zero, suc, Bool, true, cond, List, [], ◌∷◌, ◌++◌, length, map, Option, Some, None, ◌⊎◌}
 use Rattle.std.specs.Option.{option_and_then, option_map}
 use Rattle.ax_lines.specs.declared.symbol.Sign.{Sign}
 use Rattle.ax_lines.specs.declared.symbol.Sign.TheVariants as sign

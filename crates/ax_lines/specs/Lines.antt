@@ -1,5 +1,5 @@
 -- The lines of a text, each a production in its place, and the first that is none.
-use Rattle.std.specs.Prelude.{◌≡◌, ◌≢◌, ℕ, ◌+◌, Bool, true, false, not, ◌||◌, ◌&&◌, cond, List, [], ◌∷◌, ◌++◌, length, map, ◌⊎◌}
+use Rattle.std.specs.Prelude.{◌≡◌, ◌≢◌, ℕ, ◌+◌, Bool, true, false, not, ◌&&◌, cond, List, [], ◌∷◌, ◌++◌, length, map, ◌⊎◌}
 use Rattle.std.specs.List.{slice_split}
 use Rattle.ax_lex.specs.declared.token.Token.{Token}
 use Rattle.ax_lines.specs.declared.symbol.Word.{Word}

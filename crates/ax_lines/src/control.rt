@@ -29,9 +29,15 @@ pub fn branch(line: &[Symbol]) -> Option<(Statement, &[Symbol])>
 {
     let rest = strip(line, &[Sign::Word(Word::Br), Sign::Int(1)])?;
     let (test, rest) = value(rest)?;
-    let rest = strip(rest, &[Sign::Mark(Punctuation::Comma), Sign::Word(Word::Label)])?;
+    let rest = strip(
+        rest,
+        &[Sign::Mark(Punctuation::Comma), Sign::Word(Word::Label)],
+    )?;
     let (taken, rest) = local(rest)?;
-    let rest = strip(rest, &[Sign::Mark(Punctuation::Comma), Sign::Word(Word::Label)])?;
+    let rest = strip(
+        rest,
+        &[Sign::Mark(Punctuation::Comma), Sign::Word(Word::Label)],
+    )?;
     let (missed, rest) = local(rest)?;
     let rest = tail(rest)?;
     Some((Statement::Branch(test, taken, missed), rest))

@@ -122,7 +122,10 @@ fn call_argument(line: &[Symbol]) -> Option<(Argument, &[Symbol])>
 
 /// The values of a phi, each with its block.
 #[tactic(auto, using(crate::proofs::Commas::list_starts, crate::proofs::Commas::list_fails))]
-pub fn incomings<'a>(alloc: Global, line: &'a [Symbol]) -> Result<(Vec<(Value, Span)>, &'a [Symbol]), Stop>
+pub fn incomings<'a>(
+    alloc: Global,
+    line: &'a [Symbol],
+) -> Result<(Vec<(Value, Span)>, &'a [Symbol]), Stop>
     ensures { ReadsAs (λ x. (x.0.items, x.1.now)) result (reads (list incoming) line.now) }
 {
     let mut found = Vec::new(alloc);
@@ -141,7 +144,10 @@ pub fn incomings<'a>(alloc: Global, line: &'a [Symbol]) -> Result<(Vec<(Value, S
 
 /// Parameters, at least one.
 #[tactic(auto, using(crate::proofs::Commas::list_starts, crate::proofs::Commas::list_fails))]
-pub fn parameters<'a>(alloc: Global, line: &'a [Symbol]) -> Result<(Vec<(Ty, Span)>, &'a [Symbol]), Stop>
+pub fn parameters<'a>(
+    alloc: Global,
+    line: &'a [Symbol],
+) -> Result<(Vec<(Ty, Span)>, &'a [Symbol]), Stop>
     ensures { ReadsAs (λ x. (x.0.items, x.1.now)) result (reads (list parameter) line.now) }
 {
     let mut found = Vec::new(alloc);
@@ -160,7 +166,11 @@ pub fn parameters<'a>(alloc: Global, line: &'a [Symbol]) -> Result<(Vec<(Ty, Spa
 
 /// The first numbers of an array of this type.
 #[tactic(auto, using(crate::proofs::Commas::list_starts, crate::proofs::Commas::list_fails))]
-pub fn first_numbers<'a>(alloc: Global, ty: Ty, line: &'a [Symbol]) -> Result<(Vec<Value>, &'a [Symbol]), Stop>
+pub fn first_numbers<'a>(
+    alloc: Global,
+    ty: Ty,
+    line: &'a [Symbol],
+) -> Result<(Vec<Value>, &'a [Symbol]), Stop>
     ensures { ReadsAs (λ x. (x.0.items, x.1.now)) result (reads (list (element ty)) line.now) }
 {
     let mut found = Vec::new(alloc);
@@ -179,7 +189,10 @@ pub fn first_numbers<'a>(alloc: Global, ty: Ty, line: &'a [Symbol]) -> Result<(V
 
 /// Arguments of a call, at least one.
 #[tactic(auto, using(crate::proofs::Commas::list_starts, crate::proofs::Commas::list_fails))]
-pub fn call_arguments<'a>(alloc: Global, line: &'a [Symbol]) -> Result<(Vec<Argument>, &'a [Symbol]), Stop>
+pub fn call_arguments<'a>(
+    alloc: Global,
+    line: &'a [Symbol],
+) -> Result<(Vec<Argument>, &'a [Symbol]), Stop>
     ensures { ReadsAs (λ x. (x.0.items, x.1.now)) result (reads (list call_argument) line.now) }
 {
     let mut found = Vec::new(alloc);

@@ -26,3 +26,6 @@ pub use fault::LineFault;
 pub use lines::read_lines;
 pub use statement::{Argument, Base, Line, Path, Place, Pointer, Statement, Value};
 pub use symbol::{Punctuation, Sign, Span, Symbol, Word};
+
+#[cfg(test)]
+mod tests;

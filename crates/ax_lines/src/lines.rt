@@ -16,11 +16,19 @@ use crate::symbols::{is_feed, symbols};
 use ax_lex::Token;
 use std::alloc::Global;
 
+/// How many symbols stand before the first line feed.
 fn line_len(symbols: &[Symbol]) -> usize
     ensures is { result ≡ position_or_len is_feed symbols.now }
     ensures within { result ≤ length symbols.now }
 {
-    symbols.iter().take_while(|s| !is_feed(*s)).count()
+    let mut len = 0;
+    for symbol in symbols {
+        if is_feed(symbol) {
+            return len;
+        }
+        len += 1;
+    }
+    len
 }
 
 /// The first line, and what stands behind its line feed.
@@ -43,12 +51,7 @@ fn is_outside(place: Place) -> bool
 }
 
 /// What the line of this number states at its place.
-fn one_line(
-    alloc: Global,
-    place: Place,
-    line: &[Symbol],
-    number: usize,
-) -> Result<Line, LineFault>
+fn one_line(alloc: Global, place: Place, line: &[Symbol], number: usize) -> Result<Line, LineFault>
     ensures { LineRead place line.now number result }
 {
     match line_at(alloc, place, line) {

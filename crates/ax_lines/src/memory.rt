@@ -14,6 +14,7 @@ use crate::types::type_at;
 use crate::words::{order, rmw_operation};
 
 const COMMA: [Sign; 1] = [Sign::Mark(Punctuation::Comma)];
+
 const VOLATILE: [Sign; 1] = [Sign::Word(Word::Volatile)];
 
 /// `load atomic [volatile] TYPE, P ORDER, align N TAIL`.

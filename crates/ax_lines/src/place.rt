@@ -95,11 +95,7 @@ fn named_call(alloc: Global, line: &[Symbol]) -> Result<(Line, &[Symbol]), Stop>
 
 /// A line behind a terminator that is no label.
 #[tactic(auto, unfolding(crate::specs::Productions::between))]
-fn between<'a>(
-    alloc: Global,
-    first: Sign,
-    line: &'a [Symbol],
-) -> Result<(Line, &'a [Symbol]), Stop>
+fn between<'a>(alloc: Global, first: Sign, line: &'a [Symbol]) -> Result<(Line, &'a [Symbol]), Stop>
     ensures { ReadsAs (λ x. (x.0, x.1.now)) result (reads (between first) line.now) }
 {
     match first {

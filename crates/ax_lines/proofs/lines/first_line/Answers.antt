@@ -1,4 +1,3 @@
-use Rattle.std.proofs.Common.{◌≡◌, ap, drop, take, ◌∙◌, sym}
 use Rattle.ax_lines.specs.Symbols.{is_feed}
 use Rattle.ax_lines.proofs.Places.{empty_behind, next_behind}
 use Rattle.ax_lines.proofs.lines.first_line.Goals as goal

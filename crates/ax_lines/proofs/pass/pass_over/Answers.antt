@@ -1,4 +1,4 @@
-use Rattle.std.proofs.Common.{rules, ◌≡◌, sym, ◌∙◌, arith}
+use Rattle.std.proofs.Common.{rules, sym, ◌∙◌}
 use Rattle.ax_lines.proofs.Passing.{over_item, over_none}
 use Rattle.ax_lines.proofs.pass.pass_over.Goals as goal
 
