@@ -99,3 +99,12 @@ all_within text from (t ∷ ts) to h =
 
 pub tokens_within : (text : List ℕ) (ts : List Token) → AreTokens text ts → All (λ t. (t.start < t.end) × (t.end ≤ length text)) ts
 tokens_within text ts a = All-from_recursion (λ t. (t.start < t.end) × (t.end ≤ length text)) ts (all_within text 0 ts a.0 a.1)
+
+walk_count : (text : List ℕ) (from : ℕ) (ts : List Token) (to : ℕ) → TokensTo text from ts to → length ts + from ≤ to
+walk_count text from [] to h = omega (arith, h)
+walk_count text from (t ∷ ts) to h =
+    let p = longest_positive (drop t.start text) t.kind (t.end - t.start) h.0.longest in
+    omega (arith, h.0.starts, p, walk_count text t.end ts to h.1)
+
+pub tokens_few : (text : List ℕ) (ts : List Token) → AreTokens text ts → length ts ≤ length text
+tokens_few text ts a = omega (arith, walk_count text 0 ts a.0 a.1, a.2)

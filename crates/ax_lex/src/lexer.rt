@@ -26,6 +26,8 @@ pub fn tokens(alloc: Global, text: &[u8]) -> Result<Vec<Token>, LexFault>
     ensures written { (ps : List Piece) → text.now ≡ render ps → FitsText ps → MatchResult result (λ v. v.items ≡ tokens_at 0 ps) (λ e. e ≡ LexFault.Memory) }
     // Each token has a byte and lies in the text.
     ensures within { IfOk result (λ v. All (λ t. (t.start < t.end) × (t.end ≤ length text.now)) v.items) }
+    // There are no more tokens than bytes.
+    ensures few { IfOk result (λ v. length v.items ≤ length text.now) }
 {
     let mut tokens = Vec::new(alloc);
     let mut at = gap_end(text, 0);

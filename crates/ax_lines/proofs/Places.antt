@@ -1,20 +1,22 @@
 -- Lines in their places.
-use Rattle.std.proofs.Common.{◌≡◌, ℕ, ◌+◌, List, [], ◌∷◌, ◌++◌, length, Option, Some, None, refl, sym, ap, subst, ◌∙◌, arith, append_assoc, inl, inr, Bool, true, false, cond, take, drop, one-add, suc, ◌-◌, ◌<◌, ◌≤◌, Bor}
+use Rattle.std.proofs.Common.{◌≡◌, ℕ, ◌+◌, List, [], ◌∷◌, ◌++◌, length, Option, Some, None, map, refl, sym, ap, subst, ◌∙◌, arith, append_assoc, inl, inr, Bool, true, false, cond, take, drop, one-add, suc, ◌-◌, ◌<◌, ◌≤◌, Bor}
 use Rattle.std.specs.Prelude.{not, MatchOption}
 use Rattle.std.specs.List.{slice_split, onto_first, position_or_len}
 use Rattle.ax_lines.specs.declared.symbol.Symbol.{Symbol}
 use Rattle.ax_lines.specs.declared.statement.Line.{Line}
 use Rattle.ax_lines.specs.declared.statement.Place.{Place}
 use Rattle.ax_lines.specs.declared.statement.Place.TheVariants as place
-use Rattle.std.proofs.lemmas.List.{length-append, append-nil, length-drop, take_all}
+use Rattle.std.proofs.lemmas.List.{length-append, length-map, append-nil, length-drop, take_all}
 use Rattle.std.proofs.lemmas.Option.{same_Some}
 use Rattle.ax_lines.specs.Grammar.{Grammar, IsLine, reads, all_of}
 use Rattle.ax_lines.specs.Productions.{line_at, place_after}
 use Rattle.ax_lines.specs.Symbols.{is_feed}
-use Rattle.ax_lines.specs.Lines.{InPlace, AreLines, IsBadLine, IsSyntax, IsOpcode, is_opcode_fault}
+use Rattle.ax_lines.specs.Lines.{InPlace, AreLines, lines_of, IsBadLine, IsSyntax, IsOpcode, is_opcode_fault}
 use Rattle.ax_lines.specs.declared.fault.LineFault.{LineFault}
 use Rattle.ax_lines.specs.declared.fault.LineFault.TheVariants.{Syntax, Opcode, Memory}
-use Rattle.ax_lines.specs.Faults.{IsLineFault, NoLine}
+use Rattle.ax_lines.specs.Faults.{IsLineFault, NoLine, FaultWithin}
+use Rattle.ax_lex.specs.declared.token.Token.{Token}
+use Rattle.ax_lines.specs.Symbols.{symbol_of}
 use Rattle.ax_lines.proofs.Exact.{found, all_found}
 
 -- ---- the first line
@@ -165,3 +167,38 @@ no_line_fault ls xs Memory h b = refl
 
 pub same_all : (ls : List (List Symbol)) (xs ys : List Line) → AreLines ls xs → AreLines ls ys → xs ≡ ys
 same_all ls xs ys h k = (same_lines place.Outside place.Outside place.Outside ls xs ys h k).0
+
+-- ---- how many lines there are
+
+onto_few : (s : Symbol) (parts : List (List Symbol)) (n : ℕ) → length parts ≤ n + 1 → length (onto_first s parts) ≤ n + 1
+onto_few s [] n h = omega arith
+onto_few s (part ∷ parts) n h = h
+
+split_at_few : (t : Bool) (s : Symbol) (parts : List (List Symbol)) (n : ℕ) → length parts ≤ n + 1 → length (cond t ([] ∷ parts) (onto_first s parts)) ≤ suc n + 1
+split_at_few true s parts n h = omega (arith, h)
+split_at_few false s parts n h = omega (arith, onto_few s parts n h)
+
+split_few : (p : Symbol → Bool) (ss : List Symbol) → length (slice_split p ss) ≤ length ss + 1
+split_few p [] = omega arith
+split_few p (s ∷ ss) = split_at_few (p s) s (slice_split p ss) (length ss) (split_few p ss)
+
+counted : (p q : Place) (ls : List (List Symbol)) (xs : List Line) → InPlace p ls xs q → length ls ≡ length xs
+counted p q [] [] h = refl
+counted p q [] (x ∷ xs) h = absurd h
+counted p q (l ∷ ls) [] h = absurd h
+counted p q (l ∷ ls) (x ∷ xs) h = ap suc (counted (place_after p x) q ls xs h.1)
+
+lines_few : (text : List ℕ) (ts : List Token) → length (lines_of text ts) ≤ length ts + 1
+lines_few text ts = omega (arith, split_few is_feed (map (symbol_of text) ts), length-map {A = Token} {B = Symbol})
+
+pub stated_few : (text : List ℕ) (ts : List Token) (xs : List Line) → AreLines (lines_of text ts) xs → length xs ≤ length ts + 1
+stated_few text ts xs h = omega (arith, counted place.Outside place.Outside (lines_of text ts) xs h, lines_few text ts)
+
+bad_within : (ls : List (List Symbol)) (n : ℕ) (opcode : Bool) → IsBadLine ls n opcode → n ≤ length ls
+bad_within ls n opcode b = omega (arith, b.is, ap length b.whole, length-append b.before (b.line ∷ b.behind))
+
+pub fault_few : (text : List ℕ) (ts : List Token) (fault : LineFault) → IsLineFault (lines_of text ts) fault → FaultWithin (length ts + 1) fault
+fault_few text ts (Syntax n) (inl b) = omega (arith, bad_within (lines_of text ts) n false b, lines_few text ts)
+fault_few text ts (Syntax n) (inr o) = omega (arith, o.is, lines_few text ts)
+fault_few text ts (Opcode n) b = omega (arith, bad_within (lines_of text ts) n true b, lines_few text ts)
+fault_few text ts Memory b = tt

@@ -1,5 +1,5 @@
 -- The faults of lines.
-use Rattle.std.specs.Prelude.{◌≡◌, ℕ, true, false, cond, List, Some, None, Result, Ok, Err}
+use Rattle.std.specs.Prelude.{◌≡◌, ◌≤◌, ℕ, true, false, cond, List, Some, None, Result, Ok, Err}
 use Rattle.ax_lines.specs.declared.symbol.Symbol.{Symbol}
 use Rattle.ax_lines.specs.declared.statement.Place.{Place}
 use Rattle.ax_lines.specs.declared.listing.Stop.{Stop}
@@ -32,3 +32,9 @@ NoLine p l number Memory = Unit {0}
 abbrev pub LineRead : Place → List Symbol → ℕ → Result Line LineFault → Type 0
 LineRead p l number (Ok x) = all_of (reads (line_at p) l) ≡ Some x
 LineRead p l number (Err fault) = NoLine p l number fault
+
+-- The fault names no line behind this one.
+abbrev pub FaultWithin : ℕ → LineFault → Type 0
+FaultWithin most (Syntax n) = n ≤ most
+FaultWithin most (Opcode n) = n ≤ most
+FaultWithin most Memory = Unit {0}

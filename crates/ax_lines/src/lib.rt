@@ -26,6 +26,7 @@ pub use fault::LineFault;
 pub use lines::read_lines;
 pub use statement::{Argument, Base, Line, Path, Place, Pointer, Statement, Value};
 pub use symbol::{Punctuation, Sign, Span, Symbol, Word};
+pub use symbols::words_are_read_again;
 
 #[cfg(test)]
 mod tests;

@@ -1,11 +1,11 @@
 //! Lines from symbols.
 
-ghost use Rattle.std.specs.Prelude.{◌≡◌, ◌<◌, ◌≤◌, List, [], ◌∷◌, length, MatchOption, MatchResult, MatchBool, IfOk};
+ghost use Rattle.std.specs.Prelude.{◌≡◌, ◌+◌, ◌<◌, ◌≤◌, List, [], ◌∷◌, length, MatchOption, MatchResult, MatchBool, IfOk};
 ghost use Rattle.std.specs.List.{slice_split, position_or_len};
 ghost use Rattle.ax_lex.specs.declared.token.Token.{Token};
 ghost use Rattle.ax_lines.specs.Symbols.{is_feed};
 ghost use Rattle.ax_lines.specs.Lines.{AreLines, lines_of};
-ghost use Rattle.ax_lines.specs.Faults.{IsLineFault, LineRead};
+ghost use Rattle.ax_lines.specs.Faults.{IsLineFault, LineRead, FaultWithin};
 ghost use Rattle.ax_lines.specs.declared.statement.Line.{Line};
 
 use crate::fault::{LineFault, fault_of};
@@ -101,7 +101,7 @@ fn lines_once(alloc: Global, text: &[u8], tokens: &[Token]) -> Result<Vec<Line>,
 ///
 /// The first line that is no production in its place, or the last line where the text ends inside
 /// a function; or want of memory.
-#[tactic(auto, using(crate::proofs::Places::same_all, crate::proofs::Places::no_line_fault))]
+#[tactic(auto, using(crate::proofs::Places::same_all, crate::proofs::Places::no_line_fault, crate::proofs::Places::stated_few, crate::proofs::Places::fault_few))]
 pub fn read_lines(alloc: Global, text: &[u8], tokens: &[Token]) -> Result<Vec<Line>, LineFault>
     // Each line is a production in its place, and states this.
     ensures all { IfOk result (λ v. AreLines (lines_of text.now tokens.now) v.items) }
@@ -110,6 +110,8 @@ pub fn read_lines(alloc: Global, text: &[u8], tokens: &[Token]) -> Result<Vec<Li
     // What lines state is answered, unless memory runs out.
     ensures only { (stated : List Line) → AreLines (lines_of text.now tokens.now) stated
         → MatchResult result (λ v. v.items ≡ stated) (λ e. e ≡ LineFault.Memory) }
+    // Lines are at most one more than tokens.
+    ensures few { MatchResult result (λ v. length v.items ≤ length tokens.now + 1) (λ e. FaultWithin (length tokens.now + 1) e) }
 {
     lines_once(alloc, text, tokens)
 }

@@ -3,6 +3,8 @@
 ghost use Rattle.std.specs.Prelude.{◌≡◌, ◌≤◌, map, IfOk, IfSome};
 ghost use Rattle.ax_lex.specs.Tokens.{text_at};
 ghost use Rattle.ax_lines.specs.Symbols.{number_from, number_of, number_or_odd, literal_sign, find_word, word_of, width_of, int_or_word, sides_of, name_of, span_of, global_sign, text_sign, mark_sign, sign_of, symbol_of, is_feed};
+ghost use Rattle.ax_lines.specs.Signs.{word_text};
+ghost use Rattle.ax_lines.specs.declared.symbol.Word.{Word};
 
 use crate::symbol::{Punctuation, Sign, Span, Symbol, WORDS, Word};
 use ax_lex::{Token, TokenKind, text_of};
@@ -225,3 +227,9 @@ pub fn is_feed(symbol: &Symbol) -> bool
 {
     matches!(symbol.sign, Sign::Feed)
 }
+
+/// Each word of the grammar is the word that its spelling stands for in the table.
+#[tactic(auto, using(crate::proofs::SymbolLemmas::word_again))]
+pub fn words_are_read_again()
+    ensures { (word : Word) → word_of (word_text word) ≡ word }
+{}

@@ -2,7 +2,7 @@ use Rattle.std.proofs.Common.{arith, subst, sym, List, ℕ}
 use Rattle.ax_lex.specs.Tokens.{AreTokens}
 use Rattle.ax_lex.specs.Written.{tokens_at}
 use Rattle.ax_lex.proofs.Rendered.{rendered}
-use Rattle.ax_lex.proofs.Walk.{next_reached, reached_end, reached_bad, same_tokens, same_bad, not_both, tokens_within}
+use Rattle.ax_lex.proofs.Walk.{next_reached, reached_end, reached_bad, same_tokens, same_bad, not_both, tokens_within, tokens_few}
 use Rattle.ax_lex.proofs.lexer.tokens.Goals as goal
 
 pub returns-in_default-clause-only : goal.returns-in_default-clause-only
@@ -23,6 +23,9 @@ returns-clause-bad c = λ at h. not_both c.args.text.now c.loop-at.tokens.items 
 
 pub returns-clause-within : goal.returns-clause-within
 returns-clause-within c = tokens_within c.args.text.now c.loop-at.tokens.items (reached_end c.args.text.now c.loop-at.tokens.items c.loop-at.at c.loop-at.invariant c.loop-at-test.false)
+
+pub returns-clause-few : goal.returns-clause-few
+returns-clause-few c = tokens_few c.args.text.now c.loop-at.tokens.items (reached_end c.args.text.now c.loop-at.tokens.items c.loop-at.at c.loop-at.invariant c.loop-at-test.false)
 
 pub returns-in_default-clause-written : goal.returns-in_default-clause-written
 returns-in_default-clause-written c = λ ps e f.
