@@ -1,6 +1,8 @@
 //! Names of globals and functions.
 
 ghost use Rattle.std.specs.Prelude.{◌≡◌};
+ghost use Rattle.std.specs.List.{list_all};
+ghost use Rattle.ax_ir.specs.Names.{is_name_byte, is_plain};
 
 use ax_ops::Items;
 use std::marker::Model;
@@ -37,4 +39,24 @@ impl Name {
     {
         self.bytes.as_slice()
     }
+    /// Whether it is written without quotes: not empty, and all letters, digits, `_`, `.`, `-` and
+    /// `$` (LLVM Language Reference, Identifiers).
+    pub fn is_plain(&self) -> bool
+        ensures { result ≡ is_plain self.now }
+    {
+        let bytes = self.as_bytes();
+        !bytes.is_empty() && are_name_bytes(bytes)
+    }
+}
+
+fn are_name_bytes(bytes: &[u8]) -> bool
+    ensures { result ≡ list_all is_name_byte bytes.now }
+{
+    bytes.iter().all(|b| is_name_byte(*b))
+}
+
+fn is_name_byte(b: u8) -> bool
+    ensures { result ≡ is_name_byte b }
+{
+    b.is_ascii_alphanumeric() || matches!(b, b'_' | b'.' | b'-' | b'$')
 }
