@@ -12,9 +12,9 @@ use Rattle.ax_ir.specs.declared.module.Global.{Global}
 use Rattle.ax_ir.specs.declared.module.Block.{Block}
 use Rattle.ax_ir.specs.declared.module.Function.{Function}
 use Rattle.ax_ir.specs.declared.module.Module.{Module}
-use Rattle.ax_ir.specs.Names.{is_printable, is_name}
+use Rattle.ax_ir.specs.Names.{IsAscii, is_printable, is_name}
 use Rattle.ax_ir.specs.InstTokens.{called_name}
-use Rattle.ax_ir.specs.Ascii.{IsAscii, CallsAscii, NamesAscii}
+use Rattle.ax_ir.specs.Ascii.{CallsAscii, NamesAscii}
 use Rattle.ax_ir.specs.WellFormed.{Scope, begins_with, is_global_name, is_function_name, is_callee_name, is_type, is_bit, is_result_type, is_arg, is_nonempty, is_inst, is_order, is_block, is_function, is_init, is_global, all_differ, names_of, IsModule, scope_of}
 
 all_pass : {A : Type 0} (test : A → Bool) (P : A → Type 0) → ((x : A) → test x ≡ true → P x) → (xs : List A) → list_all test xs ≡ true → All P xs

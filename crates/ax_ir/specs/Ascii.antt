@@ -1,11 +1,9 @@
--- Names of ASCII bytes, which a text of characters can have as they are.
-use Rattle.std.specs.Prelude.{ℕ, ◌<◌, List, All}
+-- The names of a function and of what it calls are of ASCII bytes.
+use Rattle.std.specs.Prelude.{List, All}
 use Rattle.ax_ir.specs.declared.inst.Inst.{Inst}
 use Rattle.ax_ir.specs.declared.module.Function.{Function}
 use Rattle.ax_ir.specs.InstTokens.{called_name}
-
-abbrev pub IsAscii : List ℕ → Type 0
-IsAscii name = All (λ b. b < 128) name
+use Rattle.ax_ir.specs.Names.{IsAscii}
 
 abbrev pub CallsAscii : List Inst → Type 0
 CallsAscii insts = All (λ i. IsAscii (called_name i)) insts

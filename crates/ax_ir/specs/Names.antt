@@ -1,10 +1,14 @@
 -- Names, and how a text spells them.
-use Rattle.std.specs.Prelude.{ℕ, Bool, true, false, not, ◌&&◌, ◌||◌, nat_le, ◌==◌, if◌then◌else◌, List, [], ◌∷◌, ◌++◌}
+use Rattle.std.specs.Prelude.{ℕ, ◌<◌, All, Bool, true, false, not, ◌&&◌, ◌||◌, nat_le, ◌==◌, if◌then◌else◌, List, [], ◌∷◌, ◌++◌}
 use Rattle.std.specs.List.{list_all}
 
 -- printable ASCII other than the double quote
 abbrev pub is_printable : ℕ → Bool
 is_printable b = (nat_le 32 b && nat_le b 126) && not (b == 34)
+
+-- bytes that a text of characters can have as they are
+abbrev pub IsAscii : List ℕ → Type 0
+IsAscii name = All (λ b. b < 128) name
 
 -- any list of such bytes, the empty one included
 abbrev pub is_name : List ℕ → Bool

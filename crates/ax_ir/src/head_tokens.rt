@@ -1,7 +1,7 @@
 //! The tokens of globals and of the heads of functions.
 
 ghost use Rattle.std.specs.Prelude.{◌≡◌, ◌++◌, OnOk};
-ghost use Rattle.ax_ir.specs.Ascii.{IsAscii};
+ghost use Rattle.ax_ir.specs.Names.{IsAscii};
 ghost use Rattle.ax_ir.specs.OperandTokens.{parted, typed_tokens};
 ghost use Rattle.ax_ir.specs.Canonical.{zero_token, init_tokens, global_tokens, numbered_param_tokens, params_tokens, function_result_tokens, define_tokens};
 

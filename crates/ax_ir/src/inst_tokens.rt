@@ -1,6 +1,7 @@
 //! The tokens of instructions.
 
-ghost use Rattle.std.specs.Prelude.{◌≡◌, ◌<◌, ◌∷◌, ◌++◌, [], All, OnOk};
+ghost use Rattle.std.specs.Prelude.{◌≡◌, ◌∷◌, ◌++◌, [], OnOk};
+ghost use Rattle.ax_ir.specs.Names.{IsAscii};
 ghost use Rattle.ax_ir.specs.OperandTokens.{parted, arg_tokens};
 ghost use Rattle.ax_ir.specs.InstTokens.{entry_tokens, result_type_tokens, weak_tokens, scope_tokens, pair_tokens, inst_tokens, called_name, result_tokens, numbered_inst_tokens};
 
@@ -20,7 +21,7 @@ impl Tokens {
         k: u128,
         inst: &Inst,
     ) -> Result<(), AllocError>
-        requires { All (λ b. b < 128) (called_name inst.now) }
+        requires { IsAscii (called_name inst.now) }
         ensures { OnOk result (self.new ≡ self.old ++ numbered_inst_tokens names.now k inst.now) }
     {
         self.result(k, inst)?;
@@ -39,7 +40,7 @@ impl Tokens {
 
     #[tactic(auto, unfolding(crate::specs::InstTokens::inst_tokens, crate::specs::InstTokens::called_name))]
     fn inst(&mut self, names: &Tokens, inst: &Inst) -> Result<(), AllocError>
-        requires { All (λ b. b < 128) (called_name inst.now) }
+        requires { IsAscii (called_name inst.now) }
         ensures { OnOk result (self.new ≡ self.old ++ inst_tokens names.now inst.now) }
     {
         match inst {
@@ -169,7 +170,7 @@ impl Tokens {
         name: &Name,
         args: &[Arg],
     ) -> Result<(), AllocError>
-        requires { All (λ b. b < 128) name.now }
+        requires { IsAscii name.now }
         ensures { OnOk result (self.new ≡ self.old ++ inst_tokens names.now (Inst.Call t name.now args.now)) }
     {
         self.word("call")?;

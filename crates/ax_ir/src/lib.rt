@@ -19,3 +19,6 @@ pub use module::{Block, Function, Global, Module};
 pub use names::Name;
 pub use operand::{Addr, Arg, Base, Operand};
 pub use types::Ty;
+
+#[cfg(test)]
+mod tests;

@@ -1,8 +1,8 @@
 //! The tokens of a line, and their text.
 
-ghost use Rattle.std.specs.Prelude.{◌≡◌, ◌<◌, [], ◌∷◌, ◌++◌, All, decimal, map, slice_index_or, OnOk, string_bytes};
+ghost use Rattle.std.specs.Prelude.{◌≡◌, [], ◌∷◌, ◌++◌, decimal, map, slice_index_or, OnOk, string_bytes};
 ghost use Rattle.std.specs.Fmt.{signed_decimal};
-ghost use Rattle.ax_ir.specs.Names.{global_token};
+ghost use Rattle.ax_ir.specs.Names.{IsAscii, global_token};
 ghost use Rattle.ax_ir.specs.Spacing.{is_closing, is_opening, spaced};
 
 use crate::names::Name;
@@ -99,11 +99,11 @@ impl Tokens {
 
     /// A global's name behind its `@`.
     pub(crate) fn global(&mut self, name: &Name) -> Result<(), AllocError>
-        requires { All (λ b. b < 128) name.now }
+        requires { IsAscii name.now }
         ensures { OnOk result (self.new ≡ self.old ++ global_token name.now ∷ []) }
     {
         let mut text = String::new(self.alloc);
-        push_global(&mut text, name)?;
+        name.push_to(&mut text)?;
         self.push(text)
     }
 
@@ -123,30 +123,6 @@ impl Tokens {
     {
         push_spaced(out, self.tokens.as_slice())
     }
-}
-
-fn push_global(out: &mut String, name: &Name) -> Result<(), AllocError>
-    requires { All (λ b. b < 128) name.now }
-    ensures { OnOk result (string_bytes out.new ≡ string_bytes out.old ++ global_token name.now) }
-{
-    if name.is_plain() {
-        write!(out, "@")?;
-        push_bytes(out, name.as_bytes())
-    } else {
-        write!(out, "@\"")?;
-        push_bytes(out, name.as_bytes())?;
-        write!(out, "\"")
-    }
-}
-
-fn push_bytes(out: &mut String, bytes: &[u8]) -> Result<(), AllocError>
-    requires { All (λ b. b < 128) bytes.now }
-    ensures { OnOk result (string_bytes out.new ≡ string_bytes out.old ++ bytes.now) }
-{
-    for b in bytes {
-        out.push(*b as char)?;
-    }
-    Ok(())
 }
 
 fn push_spaced(out: &mut String, tokens: &[Token]) -> Result<(), AllocError>

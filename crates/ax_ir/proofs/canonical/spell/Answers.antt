@@ -1,5 +1,6 @@
 use Rattle.std.proofs.Common.{All, subst, sym}
-use Rattle.ax_ir.specs.Ascii.{IsAscii, NamesAscii}
+use Rattle.ax_ir.specs.Ascii.{NamesAscii}
+use Rattle.ax_ir.specs.Names.{IsAscii}
 use Rattle.ax_ir.proofs.Ascii.{globals_ascii, functions_ascii}
 use Rattle.ax_ir.proofs.canonical.spell.Goals as goal
 
