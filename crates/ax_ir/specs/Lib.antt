@@ -1,1 +1,10 @@
 pub mod Types
+pub mod Names
+pub mod Kinds
+pub mod Words
+pub mod Spacing
+pub mod OperandTokens
+pub mod InstTokens
+pub mod Ascii
+pub mod WellFormed
+pub mod Canonical

@@ -1,5 +1,9 @@
 //! Instructions.
 
+ghost use Rattle.std.specs.Prelude.{◌≡◌};
+ghost use Rattle.ax_ir.specs.Kinds.{is_phi, is_terminator, has_result};
+ghost use Rattle.ax_ir.specs.Words.{binary_word, condition_word, cast_word};
+
 use crate::names::Name;
 use crate::operand::{Addr, Arg, Base, Operand};
 use crate::types::Ty;
@@ -19,6 +23,25 @@ pub enum BinOp {
     Ashr,
 }
 
+impl BinOp {
+    /// The operation's word in LLVM's text.
+    pub fn word(self) -> &'static str
+        ensures { result.now ≡ binary_word self }
+    {
+        match self {
+            BinOp::Add => "add",
+            BinOp::Sub => "sub",
+            BinOp::Mul => "mul",
+            BinOp::And => "and",
+            BinOp::Or => "or",
+            BinOp::Xor => "xor",
+            BinOp::Shl => "shl",
+            BinOp::Lshr => "lshr",
+            BinOp::Ashr => "ashr",
+        }
+    }
+}
+
 /// The condition of an `icmp`.
 #[derive(Clone, Copy, Debug, PartialEq, Eq)]
 pub enum Pred {
@@ -34,12 +57,45 @@ pub enum Pred {
     Sle,
 }
 
+impl Pred {
+    /// The condition's word in LLVM's text.
+    pub fn word(self) -> &'static str
+        ensures { result.now ≡ condition_word self }
+    {
+        match self {
+            Pred::Eq => "eq",
+            Pred::Ne => "ne",
+            Pred::Ugt => "ugt",
+            Pred::Uge => "uge",
+            Pred::Ult => "ult",
+            Pred::Ule => "ule",
+            Pred::Sgt => "sgt",
+            Pred::Sge => "sge",
+            Pred::Slt => "slt",
+            Pred::Sle => "sle",
+        }
+    }
+}
+
 /// A conversion of whole numbers.
 #[derive(Clone, Copy, Debug, PartialEq, Eq)]
 pub enum Cast {
     Zext,
     Sext,
     Trunc,
+}
+
+impl Cast {
+    /// The conversion's word in LLVM's text.
+    pub fn word(self) -> &'static str
+        ensures { result.now ≡ cast_word self }
+    {
+        match self {
+            Cast::Zext => "zext",
+            Cast::Sext => "sext",
+            Cast::Trunc => "trunc",
+        }
+    }
 }
 
 /// An instruction, its operands in the order in which its line has them (LLVM Language Reference,
@@ -81,4 +137,45 @@ pub enum Inst {
     Extract(Ty, Operand, u8),
     /// The type of the result, where there is one, and what is called with which arguments.
     Call(Option<Ty>, Name, Items<Arg>),
+}
+
+impl Inst {
+    /// Whether it is a phi, which stands first in its block.
+    #[tactic(auto, unfolding(crate::specs::Kinds::is_phi))]
+    pub fn is_phi(&self) -> bool
+        ensures { result ≡ is_phi self.now }
+    {
+        matches!(self, Inst::Phi(..))
+    }
+
+    /// Whether it ends its block (LLVM Language Reference, Terminator Instructions).
+    #[tactic(auto, unfolding(crate::specs::Kinds::is_terminator))]
+    pub fn is_terminator(&self) -> bool
+        ensures { result ≡ is_terminator self.now }
+    {
+        matches!(
+            self,
+            Inst::Jump(..) | Inst::Branch(..) | Inst::RetVoid | Inst::Ret(..) | Inst::Unreachable
+        )
+    }
+
+    /// Whether it has a result, which its number names: all but terminators, stores, fences and
+    /// calls of what gives `void`.
+    #[tactic(auto, unfolding(crate::specs::Kinds::has_result))]
+    pub fn has_result(&self) -> bool
+        ensures { result ≡ has_result self.now }
+    {
+        !matches!(
+            self,
+            Inst::Jump(..)
+                | Inst::Branch(..)
+                | Inst::RetVoid
+                | Inst::Ret(..)
+                | Inst::Unreachable
+                | Inst::Store(..)
+                | Inst::StoreAtomic(..)
+                | Inst::Fence(..)
+                | Inst::Call(None, ..)
+        )
+    }
 }
