@@ -133,6 +133,17 @@ machine S0*20000
 end
 ";
 
+const ALL_SLOTS: &str = "report
+target rv64
+processors 1
+events 20000
+object @x 0 2047
+processor 0 ended 0 retired 11771 pending 0
+source A0*2048
+machine S0*20000
+end
+";
+
 const GREATEST: &str = "@aZ_9 = global i64 18446744073709551615, align 8
 define void @b_Y8() {
   ret void
@@ -288,16 +299,17 @@ fn many(
 }
 
 // 2,046 additions to one global, and an output of the last one's result.
-fn many_results(alloc: Global) -> Result<String, AllocError> {
+fn additions(alloc: Global, count: u32, last: &str) -> Result<String, AllocError> {
     let mut text = String::new(alloc);
     text.push_str("@x = global i64 0, align 8\ndeclare void @out(i64)\ndefine void @f() {\n")?;
-    for i in 0..2046 {
+    for i in 0..count {
         write!(
             text,
             "  %{i} = atomicrmw add ptr @x, i64 1 seq_cst, align 8\n"
         )?;
     }
-    text.push_str("  call void @out(i64 %2045)\n  ret void\n}\n")?;
+    text.push_str(last)?;
+    text.push_str("  ret void\n}\n")?;
     Ok(text)
 }
 
@@ -436,16 +448,16 @@ fn limits(rt: HostRuntime) -> Result<(), Fail> {
 
 #[test]
 fn slots_out_of_reach(rt: HostRuntime) -> Result<(), Fail> {
-    let text = many_results(rt.alloc())?;
     let schedule = "processors @f\nstep 0 20000\n";
-    let (done, written) = served(
-        rt.alloc(),
-        "run rv64 m s",
-        Some(text.as_str()),
-        schedule,
-        None,
-    )?;
-    assert_eq!(rt; done.code(), 0);
-    assert!(rt; written.as_slice().ends_with(FAR_SLOTS.as_bytes()));
+    for (count, last, report) in [
+        (2046, "  call void @out(i64 %2045)\n", FAR_SLOTS),
+        (2047, "", ALL_SLOTS),
+    ] {
+        let text = additions(rt.alloc(), count, last)?;
+        let module = Some(text.as_str());
+        let (done, written) = served(rt.alloc(), "run rv64 m s", module, schedule, None)?;
+        assert_eq!(rt; done.code(), 0);
+        assert!(rt; written.as_slice().ends_with(report.as_bytes()));
+    }
     Ok(())
 }

@@ -14,3 +14,4 @@ pub mod ResultLemmas
 pub mod Bodies
 pub mod Whole
 pub mod WholeAgain
+pub mod Derived

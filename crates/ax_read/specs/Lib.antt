@@ -4,3 +4,5 @@ pub mod Pieces
 pub mod Grammar
 pub mod Lines
 pub mod Reading
+pub mod Derivation
+pub mod Reads
