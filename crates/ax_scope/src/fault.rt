@@ -1,0 +1,33 @@
+//! Why lines are no module.
+
+use std::alloc::{AllocError, AllocFailed};
+
+/// Why lines are no module.
+#[derive(Clone, Copy, Debug, PartialEq, Eq, Drop)]
+pub enum ScopeFault {
+    /// The first line whose names don't fit, counted from 1.
+    Name { line: usize },
+    Memory,
+}
+
+impl From<AllocError> for ScopeFault {
+    ghost use Rattle.std.specs.Prelude.{◌≡◌};
+    ghost use Rattle.ax_scope.specs.declared.fault.ScopeFault.TheVariants.{Memory};
+
+    ghost from_gives = { λ _ e. e ≡ Memory };
+
+    fn from(_e: AllocError) -> ScopeFault {
+        ScopeFault::Memory
+    }
+}
+
+impl<T: Drop> From<AllocFailed<T>> for ScopeFault {
+    ghost use Rattle.std.specs.Prelude.{◌≡◌};
+    ghost use Rattle.ax_scope.specs.declared.fault.ScopeFault.TheVariants.{Memory};
+
+    ghost from_gives = { λ _ e. e ≡ Memory };
+
+    fn from(_e: AllocFailed<T>) -> ScopeFault {
+        ScopeFault::Memory
+    }
+}
