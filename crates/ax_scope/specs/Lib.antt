@@ -1,1 +1,5 @@
 pub mod Scope
+pub mod Names
+pub mod Resolve
+pub mod Around
+pub mod Stops

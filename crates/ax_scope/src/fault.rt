@@ -31,3 +31,33 @@ impl<T: Drop> From<AllocFailed<T>> for ScopeFault {
         ScopeFault::Memory
     }
 }
+
+/// Why an instruction is not resolved.
+#[derive(Clone, Copy, Drop)]
+pub enum Stop {
+    /// A name that it uses stands for nothing.
+    Unknown,
+    Memory,
+}
+
+impl From<AllocError> for Stop {
+    ghost use Rattle.std.specs.Prelude.{◌≡◌};
+    ghost use Rattle.ax_scope.specs.declared.fault.Stop.TheVariants as stop;
+
+    ghost from_gives = { λ _ e. e ≡ stop.Memory };
+
+    fn from(_e: AllocError) -> Stop {
+        Stop::Memory
+    }
+}
+
+impl<T: Drop> From<AllocFailed<T>> for Stop {
+    ghost use Rattle.std.specs.Prelude.{◌≡◌};
+    ghost use Rattle.ax_scope.specs.declared.fault.Stop.TheVariants as stop;
+
+    ghost from_gives = { λ _ e. e ≡ stop.Memory };
+
+    fn from(_e: AllocFailed<T>) -> Stop {
+        Stop::Memory
+    }
+}

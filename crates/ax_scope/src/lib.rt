@@ -2,7 +2,10 @@
 #![tactic(auto)]
 
 pub mod fault;
+mod inst;
+mod locals;
 pub mod meaning;
+mod resolve;
 pub mod scope;
 mod seen;
 
