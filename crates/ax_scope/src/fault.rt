@@ -32,11 +32,11 @@ impl<T: Drop> From<AllocFailed<T>> for ScopeFault {
     }
 }
 
-/// Why an instruction is not resolved.
+/// Why a line is not resolved.
 #[derive(Clone, Copy, Drop)]
 pub enum Stop {
-    /// A name that it uses stands for nothing.
-    Unknown,
+    /// A name does not fit: it stands for nothing, or is declared again.
+    Name,
     Memory,
 }
 

@@ -187,7 +187,7 @@ fn args_of(alloc: Global, names: &Names, arguments: &[Argument]) -> Result<Vec<A
 {
     let mut args = Vec::with_capacity(alloc, arguments.len())?;
     for argument in arguments {
-        let arg = arg_of(names, *argument).ok_or(Stop::Unknown)?;
+        let arg = arg_of(names, *argument).ok_or(Stop::Name)?;
         args.push(arg)?;
     }
     Ok(args)
@@ -202,8 +202,8 @@ fn incoming_of(
 {
     let mut incoming = Vec::with_capacity(alloc, pairs.len())?;
     for (value, from) in pairs {
-        let operand = operand_of(names, *value).ok_or(Stop::Unknown)?;
-        let block = block_of(names, *from).ok_or(Stop::Unknown)?;
+        let operand = operand_of(names, *value).ok_or(Stop::Name)?;
+        let block = block_of(names, *from).ok_or(Stop::Name)?;
         incoming.push((operand, block))?;
     }
     Ok(incoming)
@@ -230,4 +230,68 @@ fn call(
     let args = args_of(alloc, names, arguments.as_slice())?;
     let callee = Vec::from_slice(alloc, text_at(names.text, callee))?;
     Ok(Inst::Call(ty, Name::of(callee), Items::of(args)))
+}
+
+fn found(inst: Option<Inst>) -> Result<Inst, Stop>
+    ensures { Resolves (λ i. i) result inst }
+{
+    inst.ok_or(Stop::Name)
+}
+
+/// The instruction that a statement is, unless a name that it uses stands for nothing.
+#[tactic(auto, unfolding(crate::specs::Resolve::inst_of))]
+pub fn inst_of(alloc: Global, names: &Names, statement: &Statement) -> Result<Inst, Stop>
+    ensures { Resolves (λ i. i) result (inst_of (looks names.now) statement.now) }
+{
+    match statement {
+        Statement::Bin(op, ty, left, right) => found(binary(names, *op, *ty, *left, *right)),
+        Statement::Icmp(pred, ty, left, right) => {
+            found(comparison(names, *pred, *ty, *left, *right))
+        }
+        Statement::Select(test, yes_type, yes, no_type, no) => found(selection(
+            names,
+            *test,
+            (*yes_type, *yes),
+            (*no_type, *no),
+        )),
+        Statement::Convert(cast, from, value, to) => {
+            found(conversion(names, *cast, *from, *value, *to))
+        }
+        Statement::Phi(ty, pairs) => phi(alloc, names, *ty, pairs),
+        Statement::Jump(to) => found(jump(names, *to)),
+        Statement::Branch(test, yes, no) => found(branch(names, *test, *yes, *no)),
+        Statement::RetVoid => Ok(Inst::RetVoid),
+        Statement::Ret(ty, value) => found(value_return(names, *ty, *value)),
+        Statement::Unreachable => Ok(Inst::Unreachable),
+        Statement::Alloca(ty, count, align) => Ok(Inst::Alloca(*ty, *count, *align)),
+        Statement::Gep(path) => found(element(names, *path)),
+        Statement::Load(ty, pointer, align) => found(load(names, *ty, *pointer, *align)),
+        Statement::LoadAtomic(ty, pointer, order, align) => {
+            found(atomic_load(names, *ty, *pointer, *order, *align))
+        }
+        Statement::Store(ty, value, pointer, align) => {
+            found(store(names, *ty, *value, *pointer, *align))
+        }
+        Statement::StoreAtomic(ty, value, pointer, order, align) => found(atomic_store(
+            names,
+            (*ty, *value),
+            *pointer,
+            *order,
+            *align,
+        )),
+        Statement::Cmpxchg(weak, pointer, expected, new, orders, align) => found(exchange(
+            names, *weak, *pointer, *expected, *new, *orders, *align,
+        )),
+        Statement::Rmw(op, pointer, ty, value, order, align) => found(modification(
+            names,
+            *op,
+            *pointer,
+            (*ty, *value),
+            *order,
+            *align,
+        )),
+        Statement::Fence(single, order) => Ok(Inst::Fence(*single, *order)),
+        Statement::Extract(ty, value, part) => found(extraction(names, *ty, *value, *part)),
+        Statement::Call(ty, callee, arguments) => call(alloc, names, *ty, *callee, arguments),
+    }
 }
