@@ -3,3 +3,6 @@ pub mod Names
 pub mod Resolve
 pub mod Around
 pub mod Stops
+pub mod Faults
+pub mod Module
+pub mod Answers

@@ -68,9 +68,12 @@ abbrev pub results_from : List ℕ → ℕ → List Line → List (List ℕ × M
 results_from text k [] = []
 results_from text k (l ∷ ls) = declared (result_name text l) (meaning.Value k) ++ results_from text (k + inst_count l) ls
 
--- digits alone
+abbrev pub is_digit : ℕ → Bool
+is_digit b = nat_le 48 b && nat_le b 57
+
+-- digits alone, at least one
 abbrev pub is_number : List ℕ → Bool
-is_number name = not (length name == 0) && list_all (λ b. nat_le 48 b && nat_le b 57) name
+is_number name = not (length name == 0) && list_all is_digit name
 
 -- the name of an entry block without a label: the number of parameters whose names are numbers
 abbrev pub entry_name : List ℕ → List (Ty × Span) → List ℕ
@@ -92,3 +95,11 @@ first_behind first _ = false
 abbrev pub blocks_from : List ℕ → List ℕ → Bool → ℕ → List Line → List (List ℕ × Meaning)
 blocks_from text entry first k [] = []
 blocks_from text entry first k (l ∷ ls) = declared (block_name text entry first l) (meaning.Block k) ++ blocks_from text entry (first_behind first l) (k + count_some (block_name text entry first l)) ls
+
+-- ---- what the names of a function stand for
+
+abbrev pub values_of : List ℕ → List (Ty × Span) → List Line → List (List ℕ × Meaning)
+values_of text ps inside = params_from text 0 ps ++ results_from text 0 inside
+
+abbrev pub blocks_of : List ℕ → List ℕ → List Line → List (List ℕ × Meaning)
+blocks_of text entry inside = blocks_from text entry true 0 inside

@@ -15,3 +15,8 @@ with_name names name meaning = cond (is_none (look names name)) (names ++ (name,
 
 abbrev pub is_among : List ℕ → List (List ℕ) → Bool
 is_among name names = list_any (bytes_eq name) names
+
+-- with these names in turn
+abbrev pub added : List (List ℕ × Meaning) → List (List ℕ × Meaning) → List (List ℕ × Meaning)
+added names [] = names
+added names (d ∷ ds) = added (with_name names d.0 d.1) ds

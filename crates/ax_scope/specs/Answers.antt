@@ -1,0 +1,43 @@
+-- What functions that check names answer.
+use Rattle.std.specs.Prelude.{◌≡◌, ℕ, Bool, true, false, cond, List, [], ◌++◌, Option, None, Some, Result, Ok, Err, ◌+◌, ◌∷◌}
+use Rattle.std.specs.Option.{option_to_list}
+use Rattle.ax_lines.specs.declared.statement.Line.{Line}
+use Rattle.ax_ir.specs.declared.inst.Inst.{Inst}
+use Rattle.ax_scope.specs.declared.fault.Stop.{Stop}
+use Rattle.ax_scope.specs.declared.fault.Stop.TheVariants as stop
+use Rattle.ax_scope.specs.declared.fault.ScopeFault.{ScopeFault}
+use Rattle.ax_scope.specs.declared.fault.ScopeFault.TheVariants as fault
+use Rattle.ax_scope.specs.Faults.{again, outer_fault, outer_name, param_names, Body, body_fault, local_names, stated}
+
+abbrev pub StopsAt : Stop → Bool → Type 0
+StopsAt stop.Name faulty = faulty ≡ true
+StopsAt stop.Memory faulty = Unit {0}
+
+-- Names were declared behind those so far, unless one of them was declared again.
+abbrev pub Declares : List (List ℕ) → List (List ℕ) → List (List ℕ) → Result (Unit {0}) Stop → Type 0
+Declares old new names (Ok u) = (again old names ≡ false) × (new ≡ old ++ names)
+Declares old new names (Err e) = StopsAt e (again old names)
+
+-- A line outside functions has no fault, and these are the names of its parameters.
+abbrev pub Enters : List ℕ → List (List ℕ) → List (List ℕ) → Line → Result (List (List ℕ)) Stop → Type 0
+Enters text old new l (Ok params) = (outer_fault text old l ≡ false) × (new ≡ old ++ option_to_list (outer_name text l)) × (params ≡ param_names text l)
+Enters text old new l (Err e) = StopsAt e (outer_fault text old l)
+
+-- A line in a function has no fault, and this is its instruction.
+abbrev pub Passes : Body → Line → List (List ℕ) → Result (Option Inst) Stop → Type 0
+Passes b l new (Ok o) = (body_fault b l ≡ false) × (stated b.looks l ≡ Some o) × (new ≡ b.so_far ++ local_names b l)
+Passes b l new (Err e) = StopsAt e (body_fault b l)
+
+-- the first fault, from a number on
+abbrev pub first_fault : ℕ → List Bool → Option ℕ
+first_fault n [] = None
+first_fault n (b ∷ bs) = cond b (Some n) (first_fault (n + 1) bs)
+
+abbrev pub FaultIs : ScopeFault → Option ℕ → Type 0
+FaultIs (fault.Name n) found = found ≡ Some n
+FaultIs fault.Memory found = Unit {0}
+
+-- Nothing was found, or this fault.
+abbrev pub Finds : {X : Type 0} → Result X ScopeFault → Option ℕ → Type 0
+Finds (Ok x) found = found ≡ None
+Finds (Err e) found = FaultIs e found
