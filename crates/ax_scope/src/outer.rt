@@ -4,9 +4,9 @@ ghost use Rattle.std.specs.Prelude.{◌≡◌, ◌++◌, map};
 ghost use Rattle.std.specs.Option.{option_map, option_to_list};
 ghost use Rattle.ax_scope.specs.Faults.{again, outer_name, param_names, is_reserved_name, is_reserved};
 ghost use Rattle.ax_scope.specs.Names.{text_at};
-ghost use Rattle.ax_scope.specs.Answers.{Declares, Enters};
+ghost use Rattle.ax_scope.specs.Answers.{Declares, Enters, EntersAt};
 
-use crate::fault::Stop;
+use crate::fault::{ScopeFault, Stop};
 use crate::locals::text_at;
 use crate::seen::Seen;
 use ax_ir::Ty;
@@ -89,4 +89,21 @@ pub fn enter(alloc: Global, text: &[u8], names: &mut Seen, line: &Line) -> Resul
     let mut params = Seen::new(alloc);
     params_in(alloc, text, line, &mut params)?;
     Ok(params)
+}
+
+/// The same, with the number of the line.
+pub fn enter_at(
+    alloc: Global,
+    text: &[u8],
+    names: &mut Seen,
+    line: &Line,
+    number: usize,
+) -> Result<Seen, ScopeFault>
+    ensures { EntersAt text.now names.old names.new line.now number result }
+{
+    match enter(alloc, text, names, line) {
+        Ok(params) => Ok(params),
+        Err(Stop::Name) => Err(ScopeFault::Name { line: number }),
+        Err(Stop::Memory) => Err(ScopeFault::Memory),
+    }
 }
