@@ -7,7 +7,7 @@ use Rattle.ax_scope.specs.declared.fault.Stop.{Stop}
 use Rattle.ax_scope.specs.declared.fault.Stop.TheVariants as stop
 use Rattle.ax_scope.specs.declared.fault.ScopeFault.{ScopeFault}
 use Rattle.ax_scope.specs.declared.fault.ScopeFault.TheVariants as fault
-use Rattle.ax_scope.specs.Faults.{again, outer_fault, outer_name, param_names, Body, body_fault, local_names, stated, body_begun, faults_from}
+use Rattle.ax_scope.specs.Faults.{again, outer_fault, outer_name, param_names, Body, body_fault, local_names, stated, body_begun, faults_from, IsNameFault}
 use Rattle.ax_scope.specs.Module.{function_at, functions_in}
 use Rattle.ax_scope.specs.declared.meaning.Meaning.{Meaning}
 use Rattle.ax_ir.specs.declared.module.Function.{Function}
@@ -68,3 +68,8 @@ PassesAt b l new number (Err e) = FaultAt e number (body_fault b l)
 abbrev pub EntersAt : List ℕ → List (List ℕ) → List (List ℕ) → Line → ℕ → Result (List (List ℕ)) ScopeFault → Type 0
 EntersAt text old new l number (Ok params) = (outer_fault text old l ≡ false) × (new ≡ old ++ option_to_list (outer_name text l)) × (params ≡ param_names text l)
 EntersAt text old new l number (Err e) = FaultAt e number (outer_fault text old l)
+
+-- The first line whose names don't fit, or a want of memory.
+abbrev pub IsFault : List ℕ → List Line → ScopeFault → Type 0
+IsFault text lines (fault.Name n) = IsNameFault text lines n
+IsFault text lines fault.Memory = Unit {0}
