@@ -91,11 +91,11 @@ module _ (text : List ℕ) (globals : List ℕ → Option Meaning) (f : Span) (r
       let l : lines ≡ inside = front ∙ ap (λ k. take k behind) len in
       let e : stands ≡ None = ap (λ (x : List Line). first_fault number (body_faults (body_of text globals ps x) x)) (sym l) ∙ fits in
       let g : function ≡ record { name = text_at text f; result = result_or r; is_void = is_none r; params = map (λ p. p.0) ps; blocks = blocks_in (looks_of text globals ps inside) inside } =
-        is ∙ ap (λ (bs : List Block). record { name = text_at text f; result = result_or r; is_void = is_none r; params = map (λ p. p.0) ps; blocks = bs }) (says ∙ ap (λ (x : List Line). blocks_in (looks_of text globals ps x) x) l) in
-      let d : m ≡ prefix_len is_inner behind = same ∙ len in
-      ( within
-      , ap (λ k. new ++ functions_in text globals (drop k behind)) d ∙ made old new function pushed g
-      , λ names. none names e ∙ ap (λ k. first_fault (number + k) (faults_from text globals names None left)) whole ∙ sym (ap (λ k. first_fault (number + m) (faults_from text globals names None (drop k behind))) d)
+      is ∙ ap (λ (bs : List Block). record { name = text_at text f; result = result_or r; is_void = is_none r; params = map (λ p. p.0) ps; blocks = bs }) (says ∙ ap (λ (x : List Line). blocks_in (looks_of text globals ps x) x) l) in
+      let d : m ≡ prefix_len is_inner behind = same ∙ len in (
+        within,
+        ap (λ k. new ++ functions_in text globals (drop k behind)) d ∙ made old new function pushed g,
+        λ names. none names e ∙ ap (λ k. first_fault (number + k) (faults_from text globals names None left)) whole ∙ sym (ap (λ k. first_fault (number + m) (faults_from text globals names None (drop k behind))) d),
       )
 
   pub missed : (e : ScopeFault) (n : ℕ) (lines : List Line) → n ≡ prefix_len is_inner behind → lines ≡ take n behind
