@@ -60,6 +60,7 @@ fn stated_in(alloc: Global, text: &[u8]) -> Result<Vec<Line>, ReadFault>
     }
 }
 
+#[tactic(auto, using(crate::proofs::Derived::name_fault_few))]
 fn read_once(alloc: Global, text: &[u8]) -> Result<Module, ReadFault>
     requires { length text.now < 2 ^ 32 - 1 }
     ensures { ModuleRead text.now result }
