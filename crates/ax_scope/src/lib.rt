@@ -17,3 +17,6 @@ mod seen;
 
 pub use fault::ScopeFault;
 pub use module::module_of;
+
+#[cfg(test)]
+mod tests;
