@@ -1,8 +1,8 @@
 -- A text has at most one first fault, and none where its names fit.
-use Rattle.std.proofs.Common.{◌≡◌, ℕ, suc, ◌+◌, true, false, Bool, List, [], ◌∷◌, ◌++◌, length, sym, ap, subst, ◌∙◌, arith, refl}
-use Rattle.std.proofs.lemmas.Bool.{false≢true, true≢false}
+use Rattle.std.proofs.Common.{◌≡◌, ℕ, suc, ◌+◌, true, Bool, List, [], ◌∷◌, ◌++◌, length, sym, ap, subst, ◌∙◌, refl}
+use Rattle.std.proofs.lemmas.Bool.{true≢false}
 use Rattle.ax_lines.specs.declared.statement.Line.{Line}
-use Rattle.ax_scope.specs.Faults.{faults, AllFalse, NamesFit, IsNameFault}
+use Rattle.ax_scope.specs.Faults.{AllFalse, NamesFit, IsNameFault}
 
 none_true : (before behind : List Bool) → AllFalse (before ++ true ∷ behind) → ⊥
 none_true [] behind all = true≢false all.0

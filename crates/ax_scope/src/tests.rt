@@ -49,6 +49,9 @@ fn end() -> Line {
 }
 
 fn has_fault(alloc: Global, lines: Vec<Line>, number: usize) -> bool {
+    if lines.len() > 8 {
+        return false;
+    }
     match module_of(alloc, TEXT, lines.as_slice()) {
         Err(ScopeFault::Name { line }) => line == number,
         _ => false,
