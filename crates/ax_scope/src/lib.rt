@@ -12,7 +12,7 @@ pub mod meaning;
 pub mod module;
 mod outer;
 mod resolve;
-pub mod scope;
+mod scope;
 mod seen;
 
 pub use fault::ScopeFault;
