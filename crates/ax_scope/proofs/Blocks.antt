@@ -1,5 +1,5 @@
 -- Blocks, as a loop makes them.
-use Rattle.std.proofs.Common.{◌≡◌, ℕ, Bool, true, false, cond, List, [], ◌∷◌, ◌++◌, Option, Some, None, refl, sym, ap, ◌∙◌, append_assoc}
+use Rattle.std.proofs.Common.{◌≡◌, List, [], ◌∷◌, ◌++◌, refl, sym, ap, ◌∙◌, append_assoc}
 use Rattle.std.proofs.lemmas.List.{append-nil}
 use Rattle.ax_ir.specs.declared.inst.Inst.{Inst}
 use Rattle.ax_ir.specs.declared.module.Block.{Block}

@@ -1,16 +1,16 @@
 -- The lines of a function among those of a text.
-use Rattle.std.proofs.Common.{◌≡◌, ℕ, suc, ◌+◌, ◌<◌, Bool, true, false, cond, List, [], ◌∷◌, ◌++◌, length, take, drop, Option, Some, None, refl, sym, ap, ◌∙◌, arith, one-add, true≢false}
+use Rattle.std.proofs.Common.{◌≡◌, ℕ, suc, ◌+◌, Bool, true, false, cond, List, [], ◌∷◌, ◌++◌, length, take, drop, Option, Some, None, refl, sym, ap, ◌∙◌, arith, one-add, true≢false}
 use Rattle.std.proofs.lemmas.List.{append-nil}
 use Rattle.std.proofs.lemmas.Bool.{false≢true}
 use Rattle.std.specs.Prelude.{◌||◌}
-use Rattle.std.specs.Option.{option_to_list, option_map}
+use Rattle.std.specs.Option.{option_to_list}
 use Rattle.std.specs.List.{prefix_len}
 use Rattle.ax_ir.specs.declared.module.Function.{Function}
 use Rattle.ax_lines.specs.declared.statement.Line.{Line}
 use Rattle.ax_lines.specs.declared.statement.Line.TheVariants as line
 use Rattle.ax_scope.specs.declared.meaning.Meaning.{Meaning}
 use Rattle.ax_scope.specs.Names.{is_inner, block_name, result_name}
-use Rattle.ax_scope.specs.Faults.{Body, outer_name, param_names, is_reserved, outer_fault, inner_fault, body_fault, body_behind, body_faults, body_begun, function_behind, faults_from, stated, local_names}
+use Rattle.ax_scope.specs.Faults.{Body, outer_name, param_names, is_reserved, outer_fault, body_fault, body_behind, body_faults, body_begun, function_behind, faults_from, stated}
 use Rattle.ax_scope.specs.Answers.{first_fault}
 use Rattle.ax_scope.specs.Module.{function_at, functions_in}
 

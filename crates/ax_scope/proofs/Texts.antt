@@ -1,5 +1,5 @@
 -- Tests and look-ups of names, on the names and on what holds them.
-use Rattle.std.proofs.Common.{◌≡◌, ℕ, ◌+◌, Bool, true, false, cond, List, [], ◌∷◌, ◌++◌, Option, Some, None, is_some, map, refl, sym, ap, ◌∙◌, true≢false}
+use Rattle.std.proofs.Common.{◌≡◌, ℕ, Bool, true, false, cond, List, [], ◌∷◌, ◌++◌, Option, Some, None, is_some, map, refl, sym, ap, ◌∙◌, true≢false}
 use Rattle.std.specs.Prelude.{not, ◌||◌, if◌then◌else◌, is_none}
 use Rattle.std.specs.Global.{Vec}
 use Rattle.std.specs.Map.{lookup}

@@ -1,5 +1,5 @@
 -- The module that lines are.
-use Rattle.std.specs.Prelude.{◌≡◌, ℕ, pos, Bool, false, cond, List, [], ◌∷◌, ◌++◌, map, Option, None, Some, is_none}
+use Rattle.std.specs.Prelude.{ℕ, pos, Bool, false, cond, List, [], ◌∷◌, ◌++◌, map, Option, None, Some, is_none}
 use Rattle.ax_ir.specs.declared.types.Ty.{Ty}
 use Rattle.ax_ir.specs.declared.types.Ty.TheVariants.{I1}
 use Rattle.ax_ir.specs.declared.operand.Operand.{Operand}

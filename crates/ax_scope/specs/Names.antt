@@ -1,5 +1,5 @@
 -- The names that lines declare, and what each stands for.
-use Rattle.std.specs.Prelude.{ℕ, ◌+◌, ◌-◌, ◌%◌, ◌^◌, Bool, true, false, cond, not, ◌&&◌, ◌==◌, nat_le, min, List, [], ◌∷◌, ◌++◌, length, map, take, drop, Option, None, Some, decimal}
+use Rattle.std.specs.Prelude.{ℕ, ◌+◌, ◌-◌, ◌%◌, ◌^◌, Bool, true, false, cond, not, ◌&&◌, ◌==◌, nat_le, min, List, [], ◌∷◌, ◌++◌, length, take, drop, Option, None, Some, decimal}
 use Rattle.std.specs.List.{list_all, count_by, prefix_len}
 use Rattle.ax_ir.specs.declared.types.Ty.{Ty}
 use Rattle.ax_lines.specs.declared.symbol.Span.{Span}

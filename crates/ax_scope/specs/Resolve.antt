@@ -1,5 +1,5 @@
 -- What lines state, with numbers in place of names.
-use Rattle.std.specs.Prelude.{ℕ, Bool, List, [], ◌∷◌, map, Option, None, Some}
+use Rattle.std.specs.Prelude.{ℕ, List, [], ◌∷◌, Option, None, Some}
 use Rattle.ax_ir.specs.declared.types.Ty.{Ty}
 use Rattle.ax_ir.specs.declared.operand.Operand.{Operand}
 use Rattle.ax_ir.specs.declared.operand.Operand.TheVariants as operand
@@ -16,7 +16,6 @@ use Rattle.ax_lines.specs.declared.statement.Value.{Value}
 use Rattle.ax_lines.specs.declared.statement.Value.TheVariants as value
 use Rattle.ax_lines.specs.declared.statement.Base.{Base as NamedBase}
 use Rattle.ax_lines.specs.declared.statement.Base.TheVariants as named
-use Rattle.ax_lines.specs.declared.statement.Path.{Path}
 use Rattle.ax_lines.specs.declared.statement.Pointer.{Pointer}
 use Rattle.ax_lines.specs.declared.statement.Pointer.TheVariants as pointer
 use Rattle.ax_lines.specs.declared.statement.Argument.{Argument}

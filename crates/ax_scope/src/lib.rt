@@ -12,8 +12,11 @@ pub mod meaning;
 pub mod module;
 mod outer;
 mod resolve;
-pub mod scope;
+mod scope;
 mod seen;
 
 pub use fault::ScopeFault;
 pub use module::module_of;
+
+#[cfg(test)]
+mod tests;

@@ -1,10 +1,11 @@
 //! The module that lines are.
 
-ghost use Rattle.std.specs.Prelude.{◌≡◌, ◌<◌, ◌^◌, [], None, length, IfOk, IfErr, OnOk};
+ghost use Rattle.std.specs.Prelude.{◌≡◌, ◌<◌, ◌^◌, [], None, List, ℕ, length, IfOk, IfErr, OnOk};
 ghost use Rattle.ax_scope.specs.Scope.{look};
 ghost use Rattle.ax_scope.specs.Answers.{Finds, first_fault, IsFault};
-ghost use Rattle.ax_scope.specs.Faults.{faults_from, NamesFit};
+ghost use Rattle.ax_scope.specs.Faults.{faults_from, NamesFit, IsNameFault};
 ghost use Rattle.ax_scope.specs.Module.{functions_in, module_of};
+ghost use Rattle.ax_lines.specs.declared.statement.Line.{Line};
 
 use crate::declared::globals_of;
 use crate::fault::ScopeFault;
@@ -73,3 +74,9 @@ pub fn module_of(alloc: Global, text: &[u8], lines: &[Line]) -> Result<Module, S
         functions: Items::of(functions),
     })
 }
+
+/// A text whose names fit has no fault, and else one first fault alone.
+pub fn one_answer()
+    ensures fit { (text : List ℕ) (lines : List Line) (n : ℕ) → NamesFit text lines → IsNameFault text lines n → ⊥ }
+    ensures fault { (text : List ℕ) (lines : List Line) (n m : ℕ) → IsNameFault text lines n → IsNameFault text lines m → n ≡ m }
+{}
