@@ -1,0 +1,4 @@
+pub mod Classes
+pub mod Layout
+pub mod LayoutState
+pub mod Regions
