@@ -1,3 +1,4 @@
 pub mod Elements
 pub mod LockWords
+pub mod SourceExamples
 pub mod Spans
