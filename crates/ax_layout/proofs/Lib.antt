@@ -1,4 +1,6 @@
 pub mod Elements
 pub mod LockWords
 pub mod SourceExamples
+pub mod SourceModules
+pub mod SourceObjects
 pub mod Spans

@@ -1,70 +1,39 @@
 -- Runs of the source machine over modules that are written out, under the source schedules that their machine runs print.
-use Rattle.std.proofs.Common.{◌≡◌, ℕ, zero, suc, true, false, List, [], ◌∷◌, Some, None, refl, pos}
+use Rattle.std.proofs.Common.{◌≡◌, ℕ, true, false, List, [], ◌∷◌, Some, None, refl}
 use Rattle.std.specs.Prelude.{codes}
-use Rattle.ax_ir.specs.declared.inst.Inst.{Inst}
 use Rattle.ax_ir.specs.declared.inst.Inst.TheVariants as inst
 use Rattle.ax_ir.specs.declared.inst.BinOp.TheVariants as bin
 use Rattle.ax_ir.specs.declared.inst.Pred.TheVariants.{Eq}
 use Rattle.ax_ir.specs.declared.inst.Cast.TheVariants.{Zext}
 use Rattle.ax_ir.specs.declared.module.Function.{Function}
-use Rattle.ax_ir.specs.declared.module.Global.{Global}
 use Rattle.ax_ir.specs.declared.module.Module.{Module}
-use Rattle.ax_ir.specs.declared.operand.Addr.{Addr}
 use Rattle.ax_ir.specs.declared.operand.Arg.TheVariants as arg
-use Rattle.ax_ir.specs.declared.operand.Base.{Base}
 use Rattle.ax_ir.specs.declared.operand.Base.TheVariants as base
-use Rattle.ax_ir.specs.declared.operand.Operand.{Operand}
 use Rattle.ax_ir.specs.declared.operand.Operand.TheVariants as operand
-use Rattle.ax_ir.specs.declared.types.Ty.{Ty}
 use Rattle.ax_ir.specs.declared.types.Ty.TheVariants.{I1, I16, I32, I64}
 use Rattle.ax_ops.specs.declared.operation.RmwOp.TheVariants as rmw
 use Rattle.ax_ops.specs.declared.order.Order.{Order}
 use Rattle.ax_ops.specs.declared.order.Order.TheVariants.{Monotonic, SeqCst}
 use Rattle.ax_ops.specs.declared.source.SourceEvent.{SourceEvent}
-use Rattle.ax_ops.specs.declared.source.SourceEvent.TheVariants.{Act, Look, Miss, Drain}
+use Rattle.ax_ops.specs.declared.source.SourceEvent.TheVariants.{Look, Miss, Drain}
 use Rattle.ax_ops.specs.declared.source.SourceStatus.TheVariants.{Ended, Trapped}
 use Rattle.ax_ops.specs.Routine as routines
-use Rattle.ax_target.specs.declared.target.Target.{Target}
 use Rattle.ax_target.specs.declared.target.Target.TheVariants.{X86, Arm, Rv}
-use Rattle.ax_layout.specs.Layout.{layout_of}
 use Rattle.ax_layout.specs.SourceCalls.{kind_of}
 use Rattle.ax_layout.specs.SourceEvent.{expected_by, seen_by}
 use Rattle.ax_layout.specs.SourceInstructions.{access_of, deed_of, is_phi, is_unreachable, phi_number, pointers_of, result_in}
 use Rattle.ax_layout.specs.SourcePointers.{elements_of_alloca}
-use Rattle.ax_layout.specs.SourceRun.{source_run, source_start}
 use Rattle.ax_layout.specs.SourceState.{Number, SourceState}
-
--- a module's state after these events
-abbrev ran : Target → Module → List ℕ → List SourceEvent → SourceState
-ran target m entries events = source_run (record { source = m; layout = layout_of m; target = target }) events (source_start m entries)
-
-abbrev acts : ℕ → ℕ → List SourceEvent → List SourceEvent
-acts p zero events = events
-acts p (suc n) events = Act p ∷ acts p n events
-
-abbrev global : Ty → ℕ → ℕ → Global
-global ty count number = record { name = []; elem = ty; count = count; align = None; init = operand.Const (pos number) ∷ [] }
-
-abbrev function : List Inst → Function
-function insts = record { name = []; result = I1; is_void = true; params = []; blocks = record { insts = insts } ∷ [] }
-
-abbrev at : Base → Addr
-at b = record { base = b; step = None }
-
-abbrev number : ℕ → Operand
-number n = operand.Const (pos n)
-
-abbrev out : ℕ → Inst
-out r = inst.Call None (codes "out") (arg.Value I64 (operand.Value r) ∷ [])
+use Rattle.ax_layout.proofs.SourceModules.{acts, at, constant, function, global, out, ran}
 
 -- two additions of 1, each with its output
 abbrev two_additions : Module
 two_additions = record {
   globals = global I64 1 0 ∷ [];
   functions = function (
-      inst.Rmw rmw.Add (at (base.Global 0)) I64 (number 1) SeqCst 8 ∷
+      inst.Rmw rmw.Add (at (base.Global 0)) I64 (constant 1) SeqCst 8 ∷
       out 0 ∷
-      inst.Rmw rmw.Add (at (base.Global 0)) I64 (number 1) SeqCst 8 ∷
+      inst.Rmw rmw.Add (at (base.Global 0)) I64 (constant 1) SeqCst 8 ∷
       out 2 ∷
       inst.RetVoid ∷ []) ∷ [];
 }
@@ -79,7 +48,7 @@ two_additions_leave = (refl, refl, refl)
 -- each stores 1 to one global and puts out the other
 abbrev half : Order → ℕ → ℕ → Function
 half order mine other = function (
-    inst.StoreAtomic I32 (number 1) (at (base.Global mine)) order 4 ∷
+    inst.StoreAtomic I32 (constant 1) (at (base.Global mine)) order 4 ∷
     inst.LoadAtomic I32 (at (base.Global other)) order 4 ∷
     inst.Convert Zext I32 (operand.Value 1) I64 ∷
     out 2 ∷
@@ -109,7 +78,7 @@ abbrev weak_exchange : Module
 weak_exchange = record {
   globals = global I64 1 5 ∷ [];
   functions = function (
-      inst.Cmpxchg true (at (base.Global 0)) I64 (number 5) I64 (number 6) SeqCst SeqCst 8 ∷
+      inst.Cmpxchg true (at (base.Global 0)) I64 (constant 5) I64 (constant 6) SeqCst SeqCst 8 ∷
       inst.Extract I64 (operand.Value 0) 1 ∷
       inst.Convert Zext I1 (operand.Value 1) I64 ∷
       out 2 ∷
@@ -135,9 +104,9 @@ out_of_range = record {
       function (
       inst.LoadAtomic I64 (at (base.Global 1)) SeqCst 8 ∷
       inst.Gep I16 4 (base.Global 0) I64 (operand.Value 0) ∷
-      inst.StoreAtomic I16 (number 9) (at (base.Value 1)) SeqCst 2 ∷
+      inst.StoreAtomic I16 (constant 9) (at (base.Value 1)) SeqCst 2 ∷
       inst.RetVoid ∷ []) ∷
-      function (inst.StoreAtomic I16 (number 7) (at (base.Global 0)) SeqCst 2 ∷ inst.RetVoid ∷ []) ∷ [];
+      function (inst.StoreAtomic I16 (constant 7) (at (base.Global 0)) SeqCst 2 ∷ inst.RetVoid ∷ []) ∷ [];
 }
 
 abbrev after_range : SourceState
@@ -160,10 +129,10 @@ loop = record {
         record { insts = inst.Jump 1 ∷ [] } ∷
         record {
           insts =
-              inst.Phi I32 ((number 0, 0) ∷ (operand.Value 3, 1) ∷ []) ∷
+              inst.Phi I32 ((constant 0, 0) ∷ (operand.Value 3, 1) ∷ []) ∷
               inst.Rmw rmw.Add (at (base.Global 0)) I32 (operand.Value 1) Monotonic 4 ∷
-              inst.Bin bin.Add I32 (operand.Value 1) (number 1) ∷
-              inst.Icmp Eq I32 (operand.Value 3) (number 4) ∷
+              inst.Bin bin.Add I32 (operand.Value 1) (constant 1) ∷
+              inst.Icmp Eq I32 (operand.Value 3) (constant 4) ∷
               inst.Branch (operand.Value 4) 2 1 ∷ [];
         } ∷
         record { insts = inst.RetVoid ∷ [] } ∷ [];
@@ -184,10 +153,10 @@ calls = record {
   functions = function (
       inst.Alloca I32 1 None ∷
       inst.Alloca I32 1 None ∷
-      inst.Store I32 (number 3) (at (base.Value 0)) None ∷
-      inst.Store I32 (number 4) (at (base.Value 1)) None ∷
-      inst.Call (Some I32) (codes "__atomic_fetch_nand_4") (arg.Pointer (at (base.Global 0)) ∷ arg.Value I32 (number 12) ∷ arg.Value I32 (number 5) ∷ []) ∷
-      inst.Call (Some I1) (codes "__atomic_compare_exchange") (arg.Value I64 (number 4) ∷ arg.Pointer (at (base.Global 1)) ∷ arg.Pointer (at (base.Value 0)) ∷ arg.Pointer (at (base.Value 1)) ∷ arg.Value I32 (number 5) ∷ arg.Value I32 (number 5) ∷ []) ∷
+      inst.Store I32 (constant 3) (at (base.Value 0)) None ∷
+      inst.Store I32 (constant 4) (at (base.Value 1)) None ∷
+      inst.Call (Some I32) (codes "__atomic_fetch_nand_4") (arg.Pointer (at (base.Global 0)) ∷ arg.Value I32 (constant 12) ∷ arg.Value I32 (constant 5) ∷ []) ∷
+      inst.Call (Some I1) (codes "__atomic_compare_exchange") (arg.Value I64 (constant 4) ∷ arg.Pointer (at (base.Global 1)) ∷ arg.Pointer (at (base.Value 0)) ∷ arg.Pointer (at (base.Value 1)) ∷ arg.Value I32 (constant 5) ∷ arg.Value I32 (constant 5) ∷ []) ∷
       inst.RetVoid ∷ []) ∷ [];
 }
 
