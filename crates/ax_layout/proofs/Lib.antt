@@ -3,4 +3,5 @@ pub mod LockWords
 pub mod SourceExamples
 pub mod SourceModules
 pub mod SourceObjects
+pub mod SourceSteps
 pub mod Spans

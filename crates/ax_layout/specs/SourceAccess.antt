@@ -66,7 +66,7 @@ written_out (store ∷ stores) numbers = written_out stores (element_set store.g
 abbrev pub newest : ℕ → ℕ → List PendingStore → ℕ → ℕ
 newest g i [] n = n
 newest g i (store ∷ stores) n =
-    newest g i stores (if nat_eq store.global g && nat_eq store.element i then store.number else n)
+    newest g i stores (if nat_eq g store.global && nat_eq i store.element then store.number else n)
 
 abbrev pub is_native_class : Class → Bool
 is_native_class Native = true

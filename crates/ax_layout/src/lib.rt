@@ -7,6 +7,7 @@ pub mod layout;
 pub mod locks;
 pub mod objects;
 pub mod regions;
+pub mod source;
 pub mod span;
 
 pub use classes::Class;
