@@ -4,4 +4,5 @@ pub mod SourceExamples
 pub mod SourceModules
 pub mod SourceObjects
 pub mod SourceSteps
+pub mod SourceUnbuffered
 pub mod Spans

@@ -5,9 +5,9 @@ ghost use Rattle.ax_layout.specs.SourceLaws.{LeaveOthers, NothingWaits, SeeOwnSt
 /// A processor loads what its objects will have once its stores reach them. An event changes no
 /// processor but its own, and a processor that has stopped stays as it is but for its stores that
 /// wait. Where the target has no buffers no store ever waits.
-#[tactic(auto, using(crate::proofs::SourceSteps::own_stores, crate::proofs::SourceSteps::others, crate::proofs::SourceSteps::stopped))]
 pub fn source_runs_hold()
     ensures own { SeeOwnStores }
     ensures others { LeaveOthers }
     ensures stopped { StayStopped }
+    ensures unbuffered { NothingWaits }
 {}
