@@ -108,8 +108,8 @@ fn define(
     ensures { Takes text.now (look globals.now) (Define head.entry.name head.entry.result head.entry.params.now) behind.now start functions.old.items functions.new.items result }
 {
     let (inside, _) = behind.split_at(inner_len(behind));
-    let blocks = body_in(alloc, text, globals, head.params, so_far, inside, start)?;
-    let function = function_of(alloc, text, head, blocks)?;
+    let body = body_in(alloc, text, globals, head.params, so_far, inside, start)?;
+    let function = function_of(alloc, text, head, body)?;
     functions.push(function)?;
     Ok(inside.len())
 }
