@@ -1,0 +1,7 @@
+mod Pieces
+mod Fit
+mod Follows
+mod Bytes
+mod Operands
+mod Insts
+mod Lines

@@ -1,0 +1,6 @@
+//! The canonical text of a module is read again.
+#![tactic(auto)]
+
+mod tokens;
+
+pub use tokens::{canonical_text_is_its_pieces, canonical_tokens_are_read};
