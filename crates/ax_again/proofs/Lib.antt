@@ -4,4 +4,5 @@ mod Follows
 mod Bytes
 mod Operands
 mod Insts
-mod Lines
+mod LineTokens
+mod Split

@@ -19,7 +19,6 @@ kind_from start.Percent = Local
 kind_from start.At = Global
 kind_from start.Quote = Text
 kind_from start.Hash = Group
-kind_from start.Feed = Newline
 kind_from _ = Mark
 
 abbrev pub kind_of : List ℕ → TokenKind
@@ -36,8 +35,11 @@ token_pieces blanks parted [] = record { blank = blanks; kind = Newline; word = 
 token_pieces blanks parted (token ∷ tokens) =
     record { blank = blanks ++ blank_before parted token; kind = kind_of token; word = token } ∷ token_pieces [] (not (is_opening token)) tokens
 
+abbrev pub indent : Line → List ℕ
+indent line = if line.indented then 32 ∷ 32 ∷ [] else []
+
 abbrev pub line_pieces : Line → List Piece
-line_pieces line = token_pieces (if line.indented then 32 ∷ 32 ∷ [] else []) false line.tokens
+line_pieces line = token_pieces (indent line) false line.tokens
 
 -- the pieces of a module's canonical text
 abbrev pub pieces_of : Module → List Piece

@@ -16,7 +16,7 @@ pub fn canonical_text_is_its_pieces()
 
 /// The tokens of a well formed module's canonical text are its pieces: each is a token of its kind,
 /// and what stands behind it does not go on with it (module text, Tokens).
-#[tactic(auto, using(crate::proofs::Lines::pieces_fit, crate::proofs::Lines::tokens_again))]
+#[tactic(auto, using(crate::proofs::LineTokens::pieces_fit, crate::proofs::LineTokens::tokens_again))]
 pub fn canonical_tokens_are_read()
     ensures fit { (m : Module) → IsModule m → FitsText (pieces_of m) }
     ensures tokens { (m : Module) → IsModule m → AreTokens (module_text m) (tokens_at 0 (pieces_of m)) }
