@@ -20,3 +20,5 @@ pub use reader::read_first;
 
 #[cfg(test)]
 mod tests;
+#[cfg(test)]
+mod whole_tests;
