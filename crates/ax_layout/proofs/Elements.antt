@@ -5,7 +5,7 @@ use Rattle.std.specs.List.{AllByRecursion}
 use Rattle.std.proofs.lemmas.Bool.{cases_lt}
 use Rattle.std.proofs.lemmas.Bool.Decides.{nat_tests}
 use Rattle.std.proofs.lemmas.List.Elements.{recursion_from_All}
-use Rattle.std.proofs.Math.Nat.{mul-le-mul_right, add-mul-mod_self_right, mul-mod_left}
+use Rattle.std.proofs.Math.Nat.{mul-le-mul_right, add-mul-mod_self_right, mul-mod_left, div-mul-le_self}
 use Rattle.ax_ir.specs.declared.module.Global.{Global}
 use Rattle.ax_ir.specs.declared.module.Module.{Module}
 use Rattle.ax_ir.specs.Types.{type_bytes}
@@ -14,10 +14,10 @@ use Rattle.ax_target.specs.Targets.{greatest_native}
 use Rattle.ax_layout.specs.declared.classes.Class.TheVariants.{Native, Locked}
 use Rattle.ax_layout.specs.declared.span.Span.{Span}
 use Rattle.ax_layout.specs.Classes.{class_of}
-use Rattle.ax_layout.specs.Layout.{CanBeLaidOut, HasElement, IsLaidOut, LayoutState, address_in, alignment_of, bytes_in, count_in, end_after, end_of_span, globals_start, layout_of, nowhere, span_after, span_in, spans_after}
-use Rattle.ax_layout.specs.Regions.{IsGlobalsAlone, IsThatOf, Lies, in_globals, in_lock_table, is_byte_of, is_byte_of_frame}
+use Rattle.ax_layout.specs.Layout.{next_multiple, CanBeLaidOut, HasElement, IsLaidOut, LayoutState, address_in, alignment_of, bytes_in, count_in, end_after, end_of_span, globals_start, layout_of, nowhere, span_after, span_in, spans_after}
+use Rattle.ax_layout.specs.Regions.{IsNextMultiple, IsGlobalsAlone, IsThatOf, Lies, in_globals, in_lock_table, is_byte_of, is_byte_of_frame}
 use Rattle.ax_layout.proofs.LockWords.{covered}
-use Rattle.ax_layout.proofs.Spans.{element_some, ends_behind, grows, starts_behind}
+use Rattle.ax_layout.proofs.Spans.{reaches, element_some, ends_behind, grows, starts_behind}
 
 abbrev at : List Global → ℕ → ℕ → Span
 at globals end g = slice_index_or (spans_after end globals) g nowhere
@@ -80,6 +80,13 @@ that_from : (globals : List Global) (end g : ℕ) (global : Global) → slice_ge
 that_from [] end g global e = cc
 that_from (x ∷ xs) end zero global e = let same : x ≡ global = cc in subst (IsThat (span_after end x)) same (record { count = refl; bytes = refl; aligned = is_multiple end x (type_bytes x.elem) })
 that_from (x ∷ xs) end (suc g) global e = that_from xs (end_of_span (span_after end x)) g global e
+
+pub next : (n a : ℕ) → 1 ≤ n → IsNextMultiple n a (next_multiple n a)
+next n a h = record {
+  multiple = mul-mod_left ((a + (n - 1)) / n) n;
+  from = reaches n a h;
+  first = (let l = div-mul-le_self (a + (n - 1)) n in omega arith);
+}
 
 module _ (m : Module) (h : CanBeLaidOut m) where
   all : AllByRecursion IsLaidOut m.globals

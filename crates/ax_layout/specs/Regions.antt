@@ -5,7 +5,7 @@ use Rattle.ax_ir.specs.declared.module.Module.{Module}
 use Rattle.ax_ir.specs.Types.{type_bytes}
 use Rattle.ax_target.specs.declared.target.Target.{Target}
 use Rattle.ax_layout.specs.Classes.{class_of, lock_word}
-use Rattle.ax_layout.specs.Layout.{CanBeLaidOut, HasElement, LayoutState, address_in, alignment_of, bytes_in, count_in, globals_limit, globals_start, layout_of}
+use Rattle.ax_layout.specs.Layout.{CanBeLaidOut, HasElement, LayoutState, address_in, alignment_of, bytes_in, count_in, globals_limit, globals_start, layout_of, next_multiple}
 
 -- is b one of the n bytes from a on
 abbrev pub covers : ℕ → ℕ → ℕ → Bool
@@ -30,6 +30,15 @@ is_byte_of_frame p a = covers (16777216 + 131072 * p) 131072 a
 -- of each module within its limits and its layout
 abbrev pub InLayouts : (Module → LayoutState → Type 0) → Type 0
 InLayouts P = (m : Module) → CanBeLaidOut m → P m (layout_of m)
+
+-- the first multiple of n from a on
+pub record IsNextMultiple (n a next : ℕ) : Type 0 where
+  pub multiple : next % n ≡ 0
+  pub from : a ≤ next
+  pub first : next < a + n
+
+abbrev pub MultiplesAreNext : Type 0
+MultiplesAreNext = (n a : ℕ) → 1 ≤ n → IsNextMultiple n a (next_multiple n a)
 
 -- a global's elements are as many and as great as the module says, and begin at the next multiple of its alignment
 pub record IsThatOf (layout : LayoutState) (g : ℕ) (global : Global) : Type 0 where

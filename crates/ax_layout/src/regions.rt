@@ -2,12 +2,14 @@
 
 ghost use Rattle.std.specs.Prelude.{ℕ, ◌<◌};
 ghost use Rattle.ax_layout.specs.Classes.{lock_index_of};
-ghost use Rattle.ax_layout.specs.Regions.{InLayouts, AllLie, AreApart, AreInTheirRegion, AreOfOneClass, AreThoseOfTheModule, FramesAreApart, LocksAreApart};
+ghost use Rattle.ax_layout.specs.Regions.{InLayouts, AllLie, AreApart, AreInTheirRegion, AreOfOneClass, AreThoseOfTheModule, FramesAreApart, LocksAreApart, MultiplesAreNext};
 
-/// A layout has the module's globals. Each of their elements lies between 0x10000 and the end of
-/// the globals, which is at most 0x110000; two elements that share a byte are one, and no element
-/// shares a byte with the lock table or with a frame.
+/// A layout has the module's globals, each at the first multiple of its alignment from the end of
+/// the one before on. Each of their elements lies between 0x10000 and the end of the globals, which is at
+/// most 0x110000; two elements that share a byte are one, and no element shares a byte with the
+/// lock table or with a frame.
 pub fn objects_are_apart()
+    ensures next { MultiplesAreNext }
     ensures globals { InLayouts AreThoseOfTheModule }
     ensures lie { InLayouts AllLie }
     ensures apart { InLayouts AreApart }

@@ -54,16 +54,19 @@ fn global(alloc: Global, elem: Ty, count: u64, align: Option<u64>) -> module::Gl
     }
 }
 
-/// A byte and two words that begin where it ends, and a halfword array behind them.
+/// A byte and two words that begin where it ends, and behind them four halfwords, 16 bytes and a
+/// byte, which are aligned.
 fn unaligned(alloc: Global) -> Result<Module, AllocError>
     ensures laid_out { IfOk result CanBeLaidOut }
-    ensures counts { IfOk result (λ m. map (λ span. span.count) (layout_of m).spans ≡ 1 ∷ 1 ∷ 1 ∷ 4 ∷ []) }
+    ensures counts { IfOk result (λ m. map (λ span. span.count) (layout_of m).spans ≡ 1 ∷ 1 ∷ 1 ∷ 4 ∷ 1 ∷ 1 ∷ []) }
 {
     let mut globals = Vec::new(alloc);
     globals.push(global(alloc, Ty::I8, 1, Some(1)))?;
     globals.push(global(alloc, Ty::I32, 1, Some(1)))?;
     globals.push(global(alloc, Ty::I32, 1, Some(1)))?;
     globals.push(global(alloc, Ty::I16, 4, None))?;
+    globals.push(global(alloc, Ty::I128, 1, None))?;
+    globals.push(global(alloc, Ty::I8, 1, Some(4096)))?;
     Ok(Module {
         globals: Items::of(globals),
         functions: Items::of(Vec::new(alloc)),
@@ -80,7 +83,9 @@ fn addresses(rt: HostRuntime) {
     assert_eq!(rt; layout.address(2, 0), 0x10005);
     assert_eq!(rt; layout.address(3, 0), 0x1000a);
     assert_eq!(rt; layout.address(3, 3), 0x10010);
-    assert_eq!(rt; layout.end(), 0x10012);
+    assert_eq!(rt; layout.address(4, 0), 0x10020);
+    assert_eq!(rt; layout.address(5, 0), 0x11000);
+    assert_eq!(rt; layout.end(), 0x11001);
     assert_eq!(rt; lock_index(layout.address(1, 0)), 16);
     assert_eq!(rt; lock_index(layout.address(2, 0)), 16);
 }

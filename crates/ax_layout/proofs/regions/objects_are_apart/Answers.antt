@@ -1,4 +1,4 @@
-use Rattle.ax_layout.proofs.Elements.{alone, apart, lie, those}
+use Rattle.ax_layout.proofs.Elements.{alone, apart, lie, next, those}
 use Rattle.ax_layout.proofs.regions.objects_are_apart.Goals as goal
 
 pub returns-clause-globals : goal.returns-clause-globals
@@ -12,3 +12,6 @@ returns-clause-apart c = apart
 
 pub returns-clause-region : goal.returns-clause-region
 returns-clause-region c = alone
+
+pub returns-clause-next : goal.returns-clause-next
+returns-clause-next c = next
