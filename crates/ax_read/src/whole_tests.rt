@@ -160,15 +160,17 @@ fn shape(module: &Module) -> (usize, usize, usize) {
     }
 }
 
+fn shape_of(alloc: Global, text: &str) -> Option<(usize, usize, usize)> {
+    let module = read(alloc, text.as_bytes()).ok()?;
+    Some(shape(&module))
+}
+
 #[test]
 fn two_additions_and_their_canonical_text(rt: HostRuntime) -> Result<(), Fail> {
     let alloc = rt.alloc();
     for text in [TWO_ADDITIONS, CANONICAL] {
         let expected = two_additions(alloc)?;
-        let Ok(module) = read(alloc, text.as_bytes()) else {
-            return rt.fail("no module");
-        };
-        assert!(rt; module == expected);
+        assert!(rt; read(alloc, text.as_bytes()) == Ok(expected));
     }
     Ok(())
 }
@@ -177,10 +179,7 @@ fn two_additions_and_their_canonical_text(rt: HostRuntime) -> Result<(), Fail> {
 fn modules_in_clang_form(rt: HostRuntime) -> Result<(), Fail> {
     let alloc = rt.alloc();
     for (text, expected) in [(TICKET_LOCK, (3, 3, 7)), (LOOP_WITH_A_PHI, (1, 3, 1))] {
-        let Ok(module) = read(alloc, text.as_bytes()) else {
-            return rt.fail("no module");
-        };
-        assert_eq!(rt; shape(&module), expected);
+        assert!(rt; shape_of(alloc, text) == Some(expected));
     }
     Ok(())
 }

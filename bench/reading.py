@@ -1,0 +1,61 @@
+#!/usr/bin/env python3
+"""Times ax_read on module texts of 1, 2 and 4 MiB.
+
+Run by hand at the top of the repository: bench/reading.py. Builds a program over ax_read in a
+folder of its own, which is proved first, and prints the seconds and the peak memory of each text.
+"""
+from timing import measure
+
+PROGRAM = r"""
+//! Reads a module whose function has as many additions as the program's word says, each of the
+//! one before it.
+#![tactic(auto)]
+
+use ax_read::read;
+use std::alloc::{AllocError, Global};
+use std::env;
+use std::fmt::Write;
+use std::process::ExitCode;
+
+fn text_of(alloc: Global, lines: u32) -> Result<String, AllocError> {
+    let mut text = String::new(alloc);
+    text.push_str("define void @f() {\n  %before0 = add i64 1, 1\n")?;
+    for i in 1..lines {
+        let earlier = i - 1;
+        write!(text, "  %before{i} = add nuw nsw i64 %before{earlier}, 123 ; note\n")?;
+    }
+    text.push_str("  ret void\n}\n")?;
+    Ok(text)
+}
+
+fn is_read(alloc: Global, lines: u32) -> Result<bool, AllocError> {
+    let text = text_of(alloc, lines)?;
+    let bytes = text.as_bytes();
+    if bytes.len() > 5_000_000 {
+        return Ok(false);
+    }
+    Ok(read(alloc, bytes).is_ok())
+}
+
+fn main(rt: HostRuntime) -> ExitCode {
+    let Ok(words) = env::args(&rt) else {
+        return ExitCode::from(71);
+    };
+    let Ok(words) = words.skip(1).collect::<Vec<String>>(rt.alloc()) else {
+        return ExitCode::from(71);
+    };
+    let lines = match words.as_slice() {
+        [word] => word.as_str().parse::<u32>().unwrap_or(0),
+        _ => 0,
+    };
+    match is_read(rt.alloc(), lines) {
+        Ok(true) => ExitCode::from(0),
+        Ok(false) => ExitCode::from(1),
+        Err(_) => ExitCode::from(71),
+    }
+}
+"""
+
+CRATES = ["ax_ops", "ax_lex", "ax_source", "ax_ir", "ax_lines", "ax_scope", "ax_read"]
+
+measure("read_bench", PROGRAM, CRATES, [("%d MiB" % size, size * 17500) for size in [1, 2, 4]])
