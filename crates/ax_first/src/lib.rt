@@ -7,3 +7,6 @@ pub mod module;
 mod value;
 
 pub use module::{FirstModule, each_is_kept, first_of};
+
+#[cfg(test)]
+mod tests;
