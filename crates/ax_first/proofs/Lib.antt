@@ -1,0 +1,6 @@
+pub mod Each
+pub mod Insts
+pub mod Options
+pub mod Operands
+pub mod Bodies
+pub mod Kept
