@@ -161,7 +161,11 @@ fn shape(module: &Module) -> (usize, usize, usize) {
 }
 
 fn shape_of(alloc: Global, text: &str) -> Option<(usize, usize, usize)> {
-    let module = read(alloc, text.as_bytes()).ok()?;
+    let bytes = text.as_bytes();
+    if bytes.len() > 4_194_304 {
+        return None;
+    }
+    let module = read(alloc, bytes).ok()?;
     Some(shape(&module))
 }
 
