@@ -117,7 +117,7 @@ functions_fit globals names fits (f ∷ fs) h =
 module_fit : (m : Module) → IsModule m → LinesFit (module_lines m)
 module_fit m h =
     let count = length m.globals in
-    let parts = and_parts (all_differ (names_of m) && list_all is_global m.globals) (list_all (is_function count) m.functions) h in
+    let parts = and_parts (all_differ (names_of m) && list_all is_global m.globals) (list_all (is_function count) m.functions) h.formed in
     let globals = (and_parts (all_differ (names_of m)) (list_all is_global m.globals) parts.0).1 in
     lines_and (global_lines m.globals globals)
     (functions_fit count (names_tokens m.globals) (λ g l. names_fit m.globals globals g (ltb-true g count l)) m.functions parts.1)

@@ -68,10 +68,10 @@ global_ascii g h =
 
 pub globals_ascii : (m : Module) → IsModule m → All (λ g. IsAscii g.name) m.globals
 globals_ascii m h =
-    let front = and_parts (all_differ (names_of m) && list_all is_global m.globals) (list_all (is_function (length m.globals)) m.functions) h in
+    let front = and_parts (all_differ (names_of m) && list_all is_global m.globals) (list_all (is_function (length m.globals)) m.functions) h.formed in
     all_pass is_global (λ g. IsAscii g.name) global_ascii m.globals (and_parts (all_differ (names_of m)) (list_all is_global m.globals) front.0).1
 
 pub functions_ascii : (m : Module) → IsModule m → All NamesAscii m.functions
 functions_ascii m h =
-    let parts = and_parts (all_differ (names_of m) && list_all is_global m.globals) (list_all (is_function (length m.globals)) m.functions) h in
+    let parts = and_parts (all_differ (names_of m) && list_all is_global m.globals) (list_all (is_function (length m.globals)) m.functions) h.formed in
     all_pass (is_function (length m.globals)) NamesAscii (function_ascii (length m.globals)) m.functions parts.1

@@ -1,5 +1,6 @@
 pub mod Types
 pub mod Names
+pub mod Ranges
 pub mod Kinds
 pub mod Words
 pub mod Spacing

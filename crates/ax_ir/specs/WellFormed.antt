@@ -1,4 +1,4 @@
--- A module is well formed exactly where some text of LLVM's language derives it.
+-- Which modules are well formed: a module of the source, its names, its numbers.
 use Rattle.std.specs.Prelude.{ℕ, ◌^◌, Bool, true, false, not, ◌&&◌, ◌||◌, ◌==◌, nat_le, nat_lt, nat_eq, if◌then◌else◌, pos, Option, Some, None, List, [], ◌∷◌, length, drop, map, codes, flat_map, slice_get, IsTrue, ◌++◌}
 use Rattle.std.specs.Ordering.{int_eq}
 use Rattle.std.specs.List.{list_all, list_any, prefix_len, starts_with}
@@ -20,6 +20,7 @@ use Rattle.ax_ir.specs.declared.module.Function.{Function}
 use Rattle.ax_ir.specs.declared.module.Module.{Module}
 use Rattle.ax_ir.specs.Kinds.{is_phi, is_terminator, has_result}
 use Rattle.ax_ir.specs.Names.{is_name}
+use Rattle.ax_ir.specs.Ranges.{are_numbers_in_range}
 
 -- what an instruction may name: how many globals its module has, how many parameters and blocks
 -- its function, and the function's instructions by their numbers
@@ -185,5 +186,7 @@ is_module m =
     && list_all is_global m.globals
     && list_all (is_function (length m.globals)) m.functions
 
-abbrev pub IsModule : Module → Type 0
-IsModule m = IsTrue (is_module m)
+-- A module is well formed exactly where some text of LLVM's language derives it.
+pub record IsModule (m : Module) : Type 0 where
+  pub formed : IsTrue (is_module m)
+  pub numbers : IsTrue (are_numbers_in_range m)

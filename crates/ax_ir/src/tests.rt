@@ -31,7 +31,7 @@ fn add_one() -> Inst
 }
 
 #[test]
-#[tactic(auto, unfolding(crate::specs::WellFormed::is_inst, crate::specs::Kinds::is_phi, crate::specs::Kinds::is_terminator, crate::specs::Kinds::has_result))]
+#[tactic(auto, unfolding(crate::specs::WellFormed::is_inst, crate::specs::Ranges::is_inst_in_range, crate::specs::Kinds::is_phi, crate::specs::Kinds::is_terminator, crate::specs::Kinds::has_result))]
 fn two_additions_are_spelled(rt: HostRuntime) -> Result<(), Fail> {
     let alloc = rt.alloc();
     let x = Global {
@@ -265,7 +265,7 @@ fn other_instructions_are_spelled(rt: HostRuntime) -> Result<(), Fail> {
 }
 
 #[test]
-#[tactic(auto, unfolding(crate::specs::WellFormed::is_inst, crate::specs::Kinds::is_phi, crate::specs::Kinds::is_terminator, crate::specs::Kinds::has_result))]
+#[tactic(auto, unfolding(crate::specs::WellFormed::is_inst, crate::specs::Ranges::is_inst_in_range, crate::specs::Kinds::is_phi, crate::specs::Kinds::is_terminator, crate::specs::Kinds::has_result))]
 fn names_and_constants_are_spelled(rt: HostRuntime) -> Result<(), Fail> {
     let alloc = rt.alloc();
     let numbers = Global {
