@@ -1,0 +1,12 @@
+pub mod Found
+pub mod Decided
+pub mod Owners
+pub mod PhiTables
+pub mod Firsts
+pub mod Ranges
+pub mod Shapes
+pub mod Lays
+pub mod Here
+pub mod Total
+pub mod Verdicts
+pub mod Acceptance

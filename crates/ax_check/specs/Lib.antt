@@ -1,0 +1,13 @@
+pub mod Walk
+pub mod Search
+pub mod Rows
+pub mod Graph
+pub mod Phis
+pub mod Defined
+pub mod First
+pub mod Faults
+pub mod Facts
+pub mod Ready
+pub mod Accepted
+pub mod Causes
+pub mod Laws

@@ -1,0 +1,13 @@
+pub mod Points
+pub mod Parts
+pub mod Facts
+pub mod Constants
+pub mod Signatures
+pub mod Width
+pub mod Kind
+pub mod Orders
+pub mod Mixed
+pub mod Alignment
+pub mod Allocas
+pub mod Limits
+pub mod Tests
