@@ -1,5 +1,5 @@
 #!/usr/bin/env python3
-"""Times atomx on the largest module of the first form, and on 1,000,000 steps.
+"""Times atomx on the largest module of the first kind, and on 1,000,000 steps.
 
 Run by hand: bench/largest.py PATH_OF_ATOMX. Prints seconds and peak memory of each run.
 """
@@ -22,7 +22,7 @@ def largest_module():
         lines.append("define void @f%d() {" % f)
         for k in range(LINES):
             g = (f + k) % GLOBALS
-            lines.append("  %%%d = atomicrmw add ptr @g%d, i64 %d seq_cst, align 8" % (k, g, k + 1))
+            lines.append("  %%v%d = atomicrmw add ptr @g%d, i64 %d seq_cst, align 8" % (k, g, k + 1))
         lines.append("  ret void")
         lines.append("}")
     return "\n".join(lines) + "\n"
@@ -48,4 +48,5 @@ def main():
             print("%s: status %d, %.2f s, peak %.0f MB so far" % ((name,) + timed(atomx, ["run", "rv64", module, schedule])))
 
 
-main()
+if __name__ == "__main__":
+    main()

@@ -56,6 +56,6 @@ fn main(rt: HostRuntime) -> ExitCode {
 }
 """
 
-CRATES = ["ax_ops", "ax_lex", "ax_source", "ax_ir", "ax_lines", "ax_scope", "ax_read"]
+CRATES = ["ax_ops", "ax_lex", "ax_ir", "ax_lines", "ax_scope", "ax_read"]
 
 measure("read_bench", PROGRAM, CRATES, [("%d MiB" % size, size * 17500) for size in [1, 2, 4]])

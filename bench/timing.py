@@ -13,8 +13,11 @@ def lines_of(crates):
         return [line for line in file.read().split("\n") if line.split(":")[0] in crates]
 
 
-def built(folder, name, program, crates):
-    """The path of the program, whose first crate it names and which stands on these crates."""
+def built(folder, name, program, crates, proofs):
+    """The path of the program, whose first crate it names and which stands on these crates.
+
+    The proofs are the texts of its proof files, by their paths in the program's folder.
+    """
     for crate in crates:
         shutil.copytree(os.path.join(TOP, "crates", crate), os.path.join(folder, "crates", crate), ignore=shutil.ignore_patterns("out"))
     shutil.copy(os.path.join(TOP, "HANDLES"), folder)
@@ -24,14 +27,18 @@ def built(folder, name, program, crates):
     os.makedirs(os.path.join(crate, "src"))
     with open(os.path.join(crate, "src", "main.rt"), "w") as file:
         file.write(program.lstrip())
+    for path, text in proofs.items():
+        os.makedirs(os.path.dirname(os.path.join(crate, path)), exist_ok=True)
+        with open(os.path.join(crate, path), "w") as file:
+            file.write(text.lstrip())
     subprocess.run(["rt", "run", "--", "0"], cwd=crate, stdout=subprocess.DEVNULL, stderr=subprocess.DEVNULL)
     return os.path.join(crate, "out", name)
 
 
-def measure(name, program, crates, words):
+def measure(name, program, crates, words, proofs={}):
     """Prints the seconds and the peak memory of the program for each word, after its label."""
     with tempfile.TemporaryDirectory() as folder:
-        path = built(folder, name, program, crates)
+        path = built(folder, name, program, crates, proofs)
         for label, word in words:
             begin = time.monotonic()
             process = subprocess.Popen([path, str(word)])

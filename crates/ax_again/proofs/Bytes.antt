@@ -66,7 +66,7 @@ digit_first true digit rest l d = absurd cc
 digit_first false true rest l d = refl
 digit_first false false rest l d = absurd cc
 
-digit_starts : (b : ℕ) → is_digit b ≡ true → start_of b ≡ start.Digit
+pub digit_starts : (b : ℕ) → is_digit b ≡ true → start_of b ≡ start.Digit
 digit_starts b h = digit_first (is_letter b) (is_digit b) _ (no_letter b h) h
 
 digit_literal : (b : ℕ) → is_digit b ≡ true → is_literal_byte b ≡ true

@@ -114,7 +114,7 @@ functions_fit globals names fits (f ∷ fs) h =
     let a = and_parts (is_function globals f) (list_all (is_function globals) fs) h in
     lines_and (function_fit globals names fits f a.0) (functions_fit globals names fits fs a.1)
 
-module_fit : (m : Module) → IsModule m → LinesFit (module_lines m)
+pub module_fit : (m : Module) → IsModule m → LinesFit (module_lines m)
 module_fit m h =
     let count = length m.globals in
     let parts = and_parts (all_differ (names_of m) && list_all is_global m.globals) (list_all (is_function count) m.functions) h.formed in

@@ -14,7 +14,7 @@ render_append (p ∷ ps) qs =
     ∙ ap (λ r. p.blank ++ r) (sym (append_assoc p.word (render ps) (render qs)))
     ∙ sym (append_assoc p.blank (p.word ++ render ps) (render qs))
 
-regroup : (l b t s n : List ℕ) → (l ++ b) ++ (t ++ (s ++ n)) ≡ (l ++ ((b ++ t) ++ s)) ++ n
+pub regroup : (l b t s n : List ℕ) → (l ++ b) ++ (t ++ (s ++ n)) ≡ (l ++ ((b ++ t) ++ s)) ++ n
 regroup l b t s n =
     append_assoc l b (t ++ (s ++ n))
     ∙ sym (append_assoc l ((b ++ t) ++ s) n ∙ ap (λ x. l ++ x) (append_assoc (b ++ t) s n ∙ append_assoc b t (s ++ n)))

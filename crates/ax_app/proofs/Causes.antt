@@ -1,79 +1,114 @@
--- From what the files gave to the cause of a verdict.
-use Rattle.std.proofs.Common.{◌≡◌, ℕ, ◌<◌, ◌≤◌, List, [], ◌∷◌, ◌++◌, length, Option, Some, None, refl, sym, ap, ◌∙◌, subst, inl, inr, ⊎_elim, append_assoc}
-use Rattle.std.specs.Prelude.{◌⊎◌}
+-- What reading the files of a command, and then judging their bytes, comes to.
+use Rattle.std.proofs.Common.{◌≡◌, ℕ, ◌<◌, ◌≤◌, List, [], ◌∷◌, ◌++◌, length, Option, Some, None, refl, sym, ap, subst, ◌∙◌, inl, inr, ⊎_elim, append_assoc}
 use Rattle.std.proofs.lemmas.List.{append-nil}
-use Rattle.std.specs.String.{string_bytes}
-use Rattle.std.specs.declared.string.String.{String}
 use Rattle.ax_io.specs.Count.{Rose}
-use Rattle.ax_read.specs.declared.module.FirstModule.{FirstModule}
-use Rattle.ax_read.specs.FirstText.{IsFirstText}
-use Rattle.ax_sched.specs.declared.plan.Plan.{Plan}
-use Rattle.ax_sched.specs.First.{IsFirstSchedule}
+use Rattle.ax_ir.specs.declared.module.Module.{Module as ModuleType}
+use Rattle.ax_read.specs.Derivation.{Derives}
+use Rattle.ax_app.specs.declared.built.Built.{Built}
 use Rattle.ax_app.specs.declared.verdict.Part.{Part}
 use Rattle.ax_app.specs.declared.verdict.Part.TheVariants.{Module, Schedule}
 use Rattle.ax_app.specs.declared.verdict.Verdict.{Verdict}
 use Rattle.ax_app.specs.declared.verdict.Verdict.TheVariants as verdict
-use Rattle.ax_app.specs.Serve.{Reading, CauseOf, HasAsked, IsBuilt, IsTextOf, IsRunText}
+use Rattle.ax_app.specs.Judged.{IsBuiltAs, JudgesRun, RefusesModule, RefusesSource}
 use Rattle.ax_app.specs.Reads.{ReadWhole, ReadFails}
+use Rattle.ax_app.specs.Serve.{Reading, reading, CauseOf, HasAsked, IsBuilt, IsModuleVerdict, IsRunVerdict, OfBoth, OfFile, limit_of}
 
-pub first_fails : (r : Reading) (m s : List ℕ) (v : Verdict) → ReadFails r Module m v → CauseOf r (Some (m, s)) v
-first_fails r m s (verdict.Text t) h = absurd h
-first_fails r m s verdict.Usage h = absurd h
-first_fails r m s (verdict.ReadFault p) h = subst (λ q. CauseOf r (Some (m, s)) (verdict.ReadFault q)) (sym h.0) (h.1, h.2, tt)
-first_fails r m s (verdict.TooLong p) h = subst (λ q. CauseOf r (Some (m, s)) (verdict.TooLong q)) (sym h.0) (h.1, h.2, tt, h.3)
-first_fails r m s (verdict.Unbuilt p) h = absurd h
-first_fails r m s verdict.Memory h = ⊎_elim (λ e. inr (inl e)) (λ e. inl (e ∙ sym (append-nil r.asked_before))) h
+pub source_refused : (bytes : List ℕ) (m : ModuleType) → Derives bytes m → (v : Verdict) → RefusesSource m v → RefusesModule bytes v
+source_refused bytes m d verdict.Memory h = tt
+source_refused bytes m d (verdict.Refused number place) h = (m, d, h)
+source_refused bytes m d (verdict.Text t) h = absurd h
+source_refused bytes m d verdict.Usage h = absurd h
+source_refused bytes m d (verdict.ReadFault p) h = absurd h
+source_refused bytes m d (verdict.TooLong p) h = absurd h
+source_refused bytes m d (verdict.Syntax line) h = absurd h
+source_refused bytes m d (verdict.Opcode line) h = absurd h
+source_refused bytes m d (verdict.Name line) h = absurd h
+source_refused bytes m d verdict.Unbuilt h = absurd h
+source_refused bytes m d (verdict.Schedule line why) h = absurd h
 
-pub first_memory : (r : Reading) (m s bytes : List ℕ) → ReadWhole r Module m bytes → CauseOf r (Some (m, s)) verdict.Memory
-first_memory r m s bytes h = inr (inl h.asked)
+module _ (r : Reading) (m s : List ℕ) where
+  pub first_fails : (v : Verdict) → ReadFails r Module m v → CauseOf r (Some (m, s)) v
+  first_fails (verdict.ReadFault p) h = subst (λ q. CauseOf r (Some (m, s)) (verdict.ReadFault q)) (sym h.0) (h.1, h.2, tt)
+  first_fails (verdict.TooLong p) h = subst (λ q. CauseOf r (Some (m, s)) (verdict.TooLong q)) (sym h.0) (h.1, h.2, tt, h.3)
+  first_fails verdict.Memory h = ⊎_elim (λ e. inr (inl e)) (λ e. inl (e ∙ sym (append-nil r.asked_before))) h
+  first_fails (verdict.Text t) h = absurd h
+  first_fails verdict.Usage h = absurd h
+  first_fails (verdict.Syntax line) h = absurd h
+  first_fails (verdict.Opcode line) h = absurd h
+  first_fails (verdict.Name line) h = absurd h
+  first_fails (verdict.Refused number place) h = absurd h
+  first_fails verdict.Unbuilt h = absurd h
+  first_fails (verdict.Schedule line why) h = absurd h
 
-pub first_unbuilt : (r : Reading) (m s bytes : List ℕ) → ReadWhole r Module m bytes → ((source : FirstModule) → IsFirstText bytes source → None ≡ Some source) → CauseOf r (Some (m, s)) (verdict.Unbuilt Module)
-first_unbuilt r m s bytes h none =
-    (h.asked, λ c told. (h.within c told, λ source is. (let e : None ≡ Some source = none source (subst (λ b. IsFirstText b source) (sym (h.told c told)) is) in cc)))
+  module _ (bytes : List ℕ) (h : ReadWhole r Module m bytes) where
+    told : (v : Verdict) → IsModuleVerdict bytes v → OfFile r Module (m, s) (λ b. IsModuleVerdict b v)
+    told v is = λ b held. (h.within b held, subst (λ x. IsModuleVerdict x v) (h.told b held) is)
 
--- both files, one after the other
-module _ (first second whole : Reading) (m s bytes : List ℕ) (source : FirstModule) (held_first : whole.held ≡ first.held) (held : (n : List ℕ) → second.held n ≡ first.held n) (asked_before : whole.asked_before ≡ first.asked_before) (between : second.asked_before ≡ first.asked) (asked : whole.asked ≡ second.asked) (faults_before : whole.faults_before ≡ first.faults_before) (faults_between : second.faults_before ≡ first.faults) (faults : whole.faults ≡ second.faults) (taken : whole.taken ≡ second.taken) (h : ReadWhole first Module m bytes) (is : IsFirstText bytes source) where
-  built : (c : List ℕ) → whole.held m ≡ Some c → IsBuilt c
-  built c told =
-      let t : first.held m ≡ Some c = sym (ap (λ f. f m) held_first) ∙ told in
-      record { source = source; reads = subst (λ b. IsFirstText b source) (h.told c t) is; within = h.within c t }
+    pub module_refused : (v : Verdict) → RefusesModule bytes v → CauseOf r (Some (m, s)) v
+    module_refused verdict.Memory is = inr (inl h.asked)
+    module_refused (verdict.Syntax line) is = (h.asked, told (verdict.Syntax line) is)
+    module_refused (verdict.Opcode line) is = (h.asked, told (verdict.Opcode line) is)
+    module_refused (verdict.Name line) is = (h.asked, told (verdict.Name line) is)
+    module_refused (verdict.Refused number place) is = (h.asked, told (verdict.Refused number place) is)
+    module_refused verdict.Unbuilt is = (h.asked, told verdict.Unbuilt is)
+    module_refused (verdict.Text t) is = absurd is
+    module_refused verdict.Usage is = absurd is
+    module_refused (verdict.ReadFault p) is = absurd is
+    module_refused (verdict.TooLong p) is = absurd is
+    module_refused (verdict.Schedule line why) is = absurd is
 
-  told_second : (c : List ℕ) → whole.held s ≡ Some c → second.held s ≡ Some c
-  told_second c t = held s ∙ sym (ap (λ f. f s) held_first) ∙ t
+-- both files, one after the other: what they hold, the names asked for, the counts, and the bytes taken
+module _ (held held_between : List ℕ → Option (List ℕ)) (same : (n : List ℕ) → held_between n ≡ held n) (asked asked_between asked_after : List (List ℕ)) (faults faults_between faults_after taken taken_after : ℕ) where
+  abbrev pub first : Reading
+  first = reading held asked asked_between faults faults_between taken
 
-  asked_one : second.asked ≡ second.asked_before → HasAsked whole (m ∷ [])
-  asked_one e = asked ∙ e ∙ between ∙ h.asked ∙ ap (λ l. l ++ m ∷ []) (sym asked_before)
+  abbrev pub second : Reading
+  second = reading held_between asked_between asked_after faults_between faults_after taken_after
 
-  asked_two : second.asked ≡ second.asked_before ++ s ∷ [] → HasAsked whole (m ∷ s ∷ [])
-  asked_two e =
-      asked ∙ e ∙ ap (λ l. l ++ s ∷ []) (between ∙ h.asked ∙ ap (λ l. l ++ m ∷ []) (sym asked_before)) ∙ append_assoc whole.asked_before (m ∷ []) (s ∷ [])
+  abbrev pub both : Reading
+  both = reading held asked asked_after faults faults_after taken_after
 
-  pub second_fails : (v : Verdict) → ReadFails second Schedule s v → CauseOf whole (Some (m, s)) v
-  second_fails (verdict.Text t) k = absurd k
-  second_fails verdict.Usage k = absurd k
-  second_fails (verdict.ReadFault p) k =
-      subst (λ q. CauseOf whole (Some (m, s)) (verdict.ReadFault q)) (sym k.0)
-      (asked_two k.1, subst (λ n. Rose n whole.faults) (sym (faults_before ∙ sym h.faults ∙ sym faults_between)) (subst (λ n. Rose second.faults_before n) (sym faults) k.2), built)
-  second_fails (verdict.TooLong p) k =
-      subst (λ q. CauseOf whole (Some (m, s)) (verdict.TooLong q)) (sym k.0)
-      (asked_two k.1, subst (λ n. 16777216 < n) (sym taken) k.2, built, λ c t. k.3 c (told_second c t))
-  second_fails (verdict.Unbuilt p) k = absurd k
-  second_fails verdict.Memory k = ⊎_elim (λ e. inr (inr (asked_two e))) (λ e. inr (inl (asked_one e))) k
+  module _ (m s bytes : List ℕ) (built : Built) (h : ReadWhole first Module m bytes) (is : IsBuiltAs bytes built) where
+    earlier : OfFile both Module (m, s) IsBuilt
+    earlier b t = (h.within b t, record { source = built.accepted.source; derives = subst (λ x. Derives x built.accepted.source) (h.told b t) is.derives; accepted = is.accepted; kind = built.first; first = is.program.first })
 
-  module _ (schedule : List ℕ) (k : ReadWhole second Schedule s schedule) where
-    pub second_memory : CauseOf whole (Some (m, s)) verdict.Memory
-    second_memory = inr (inr (asked_two k.asked))
+    asked_one : asked_after ≡ asked_between → HasAsked both (m ∷ [])
+    asked_one e = e ∙ h.asked
 
-    pub second_unbuilt : ((plan : Plan) → IsFirstSchedule schedule source.functions plan → None ≡ Some plan) → CauseOf whole (Some (m, s)) (verdict.Unbuilt Schedule)
-    unfolding built
-    second_unbuilt none =
-        (asked_two k.asked, λ c d tc td. (k.within d (told_second d td), built c tc, λ plan fits. (let e : None ≡ Some plan = none plan (subst (λ b. IsFirstSchedule b source.functions plan) (sym (k.told d (told_second d td))) fits) in cc)))
+    asked_two : asked_after ≡ asked_between ++ s ∷ [] → HasAsked both (m ∷ s ∷ [])
+    asked_two e = e ∙ ap (λ l. l ++ s ∷ []) h.asked ∙ append_assoc asked (m ∷ []) (s ∷ [])
 
-    pub whole_text : (plan : Plan) (text : String Rattle.std.proofs.Common.Global) → IsFirstSchedule schedule source.functions plan → IsTextOf source plan (string_bytes text) → CauseOf whole (Some (m, s)) (verdict.Text text)
-    unfolding built
-    whole_text plan text fits t = (
-      asked_two k.asked,
-      λ c d tc td.
-          let b = built c tc in
-          (b.within, k.within d (told_second d td), record { source = source; reads = b.reads; plan = plan; planned = subst (λ x. IsFirstSchedule x source.functions plan) (k.told d (told_second d td)) fits; is = t }),
-    )
+    pub second_fails : (v : Verdict) → ReadFails second Schedule s v → CauseOf both (Some (m, s)) v
+    second_fails (verdict.ReadFault p) k =
+        subst (λ q. CauseOf both (Some (m, s)) (verdict.ReadFault q)) (sym k.0)
+        (asked_two k.1, subst (λ n. Rose n faults_after) h.faults k.2, earlier)
+    second_fails (verdict.TooLong p) k =
+        subst (λ q. CauseOf both (Some (m, s)) (verdict.TooLong q)) (sym k.0)
+        (asked_two k.1, k.2, earlier, λ b t. k.3 b (same s ∙ t))
+    second_fails verdict.Memory k = ⊎_elim (λ e. inr (inr (asked_two e))) (λ e. inr (inl (asked_one e))) k
+    second_fails (verdict.Text t) k = absurd k
+    second_fails verdict.Usage k = absurd k
+    second_fails (verdict.Syntax line) k = absurd k
+    second_fails (verdict.Opcode line) k = absurd k
+    second_fails (verdict.Name line) k = absurd k
+    second_fails (verdict.Refused number place) k = absurd k
+    second_fails verdict.Unbuilt k = absurd k
+    second_fails (verdict.Schedule line why) k = absurd k
+
+    module _ (schedule : List ℕ) (k : ReadWhole second Schedule s schedule) where
+      of_both : (v : Verdict) → IsRunVerdict built.accepted.source schedule v → OfBoth both (m, s) v
+      unfolding earlier
+      of_both v run = λ b c t u. (h.within b t, k.within c (same s ∙ u), (earlier b t).1, subst (λ x. IsRunVerdict built.accepted.source x v) (k.told c (same s ∙ u)) run)
+
+      pub run_judged : (v : Verdict) → JudgesRun built.accepted.source schedule v → CauseOf both (Some (m, s)) v
+      run_judged verdict.Memory run = inr (inr (asked_two k.asked))
+      run_judged (verdict.Text t) run = (asked_two k.asked, of_both (verdict.Text t) run)
+      run_judged (verdict.Schedule line why) run = (asked_two k.asked, of_both (verdict.Schedule line why) run)
+      run_judged verdict.Usage run = absurd run
+      run_judged (verdict.ReadFault p) run = absurd run
+      run_judged (verdict.TooLong p) run = absurd run
+      run_judged (verdict.Syntax line) run = absurd run
+      run_judged (verdict.Opcode line) run = absurd run
+      run_judged (verdict.Name line) run = absurd run
+      run_judged (verdict.Refused number place) run = absurd run
+      run_judged verdict.Unbuilt run = absurd run

@@ -1,3 +1,3 @@
-pub mod Facts
+pub mod Ascii
 pub mod Causes
 pub mod Reports

@@ -7,8 +7,11 @@ use Rattle.ax_app.specs.declared.done.Done.TheVariants as done
 abbrev pub code_of : Done → ℕ
 code_of done.Ok = 0
 code_of done.Usage = 2
-code_of done.Unbuilt = 7
+code_of done.Syntax = 3
+code_of done.Refused = 4
+code_of done.Schedule = 5
 code_of done.TooLong = 6
+code_of done.Unbuilt = 7
 code_of done.ReadFault = 74
 code_of done.WriteFault = 75
 code_of done.Memory = 71

@@ -1,6 +1,7 @@
 pub mod Answers
 pub mod Writing
 pub mod Report
+pub mod Places
 pub mod Serve
 pub mod Reads
-pub mod Facts
+pub mod Judged

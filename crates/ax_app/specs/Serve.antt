@@ -1,18 +1,25 @@
 -- What a command comes to, and why: *Answers and their causes*.
-use Rattle.std.specs.Prelude.{◌≡◌, ℕ, ◌<◌, ◌≤◌, ◌⊎◌, List, [], ◌∷◌, ◌++◌, length, Option, Some, None}
+use Rattle.std.specs.Prelude.{◌≡◌, ℕ, ◌<◌, ◌≤◌, ◌⊎◌, List, [], ◌∷◌, ◌++◌, length, map, Option, Some, None, false}
 use Rattle.std.specs.String.{string_bytes}
 use Rattle.ax_io.specs.Count.{Rose}
-use Rattle.ax_isa.specs.declared.events.Event.{Event}
 use Rattle.ax_isa.specs.declared.images.Image.{Image}
 use Rattle.ax_rv.specs.declared.instructions.RvInstr.{RvInstr}
-use Rattle.ax_read.specs.declared.module.FirstModule.{FirstModule}
-use Rattle.ax_read.specs.FirstText.{IsFirstText}
+use Rattle.ax_ir.specs.declared.module.Module.{Module as ModuleType}
+use Rattle.ax_target.specs.declared.target.Target.{Target}
+use Rattle.ax_target.specs.declared.target.Target.TheVariants.{Rv}
+use Rattle.ax_check.specs.declared.accepted.Refusal.{Refusal}
+use Rattle.ax_check.specs.Faults.{IsFirstOfFaults}
+use Rattle.ax_read.specs.declared.fault.ReadFault.TheVariants as fault
+use Rattle.ax_read.specs.Derivation.{Derives, IsReadFault}
+use Rattle.ax_first.specs.declared.module.FirstModule.{FirstModule}
+use Rattle.ax_first.specs.Alike.{on_rv64}
+use Rattle.ax_first.specs.FirstKind.{first_of}
 use Rattle.ax_sched.specs.declared.plan.Plan.{Plan}
-use Rattle.ax_sched.specs.First.{IsFirstSchedule}
-use Rattle.ax_lower.specs.Lowers.{Lowers, NeverIdles, run_of, explained_by}
+use Rattle.ax_sched.specs.Events.{events_of}
+use Rattle.ax_sched.specs.Schedule.{IsFirstBad, IsSchedule}
+use Rattle.ax_lower.specs.Lowers.{Lowers, NeverIdles, machine_run, explanation}
 use Rattle.ax_lower.specs.Rows.{HasRows}
 use Rattle.ax_print.specs.Assembly.{assembly_text}
-use Rattle.ax_run.specs.Run.{events_of}
 use Rattle.ax_app.specs.declared.done.Done.{Done}
 use Rattle.ax_app.specs.declared.verdict.Part.{Part}
 use Rattle.ax_app.specs.declared.verdict.Part.TheVariants.{Module, Schedule}
@@ -20,28 +27,52 @@ use Rattle.ax_app.specs.declared.verdict.Verdict.{Verdict}
 use Rattle.ax_app.specs.declared.verdict.Verdict.TheVariants as verdict
 use Rattle.ax_app.specs.Answers.{run_form}
 use Rattle.ax_app.specs.Writing.{Writing, Writes, written_of, answer_of}
+use Rattle.ax_app.specs.Places.{place_in}
 use Rattle.ax_app.specs.Report.{run_report}
 
--- a text of a module's run: the assembly of an image that lowers the module, and then the report of that image's run under the plan
-pub record IsTextOf (source : FirstModule) (plan : Plan) (text : List ℕ) : Type 0 where
+-- a text of a module's run on RV64: the assembly of an image that lowers the module, and then the report of that image's run under the plan
+pub record IsTextOf (m : ModuleType) (plan : Plan) (text : List ℕ) : Type 0 where
   pub image : Image RvInstr
   -- for all lists of entries and of events, the machine run and the source run under its explanation agree
-  pub lowers : Lowers image source.program
+  pub lowers : Lowers image (on_rv64 m)
   -- no processor makes 4,096 Steps in a row without an Act
-  pub busy : NeverIdles image source.program
+  pub busy : NeverIdles image (on_rv64 m)
   -- each instruction's code has its row of the mapping table
-  pub rows : HasRows image source.program
+  pub rows : HasRows image (on_rv64 m)
   pub whole :
-      text ≡ assembly_text source.functions image
-      ++ run_report source.globals (length plan.entries) (run_of image source.program plan.entries (events_of plan)) (explained_by image source.program plan.entries (events_of plan)) (events_of plan)
+      text ≡ assembly_text (map (λ f. f.name) m.functions) image
+      ++ run_report (on_rv64 m) (map (λ g. g.name) m.globals) (length plan.entries) (machine_run image (on_rv64 m) plan.entries (events_of false plan)) (explanation image (on_rv64 m) plan.entries (events_of false plan)) (events_of false plan)
 
--- THE HEADLINE: the text of the module and of the plan that the files' bytes spell
-pub record IsRunText (module_bytes schedule_bytes text : List ℕ) : Type 0 where
-  pub source : FirstModule
-  pub reads : IsFirstText module_bytes source
-  pub plan : Plan
-  pub planned : IsFirstSchedule schedule_bytes source.functions plan
-  pub is : IsTextOf source plan text
+abbrev pub rv64 : Target
+rv64 = Rv false false
+
+-- the first of the module's faults on RV64 has this number and this place
+abbrev pub HasRefusal : ModuleType → ℕ → List ℕ → Type 0
+HasRefusal m number place = (r : Refusal) × IsFirstOfFaults m rv64 (Some r) × (number ≡ r.number) × (place ≡ place_in m r.place)
+
+-- what the bytes of a module file come to, where they are refused
+abbrev pub IsModuleVerdict : List ℕ → Verdict → Type 0
+IsModuleVerdict bytes (verdict.Syntax line) = IsReadFault bytes (fault.Syntax line)
+IsModuleVerdict bytes (verdict.Opcode line) = IsReadFault bytes (fault.Opcode line)
+IsModuleVerdict bytes (verdict.Name line) = IsReadFault bytes (fault.Name line)
+IsModuleVerdict bytes (verdict.Refused number place) = (m : ModuleType) × Derives bytes m × HasRefusal m number (string_bytes place)
+-- the module has no fault, and is not of the first kind
+IsModuleVerdict bytes verdict.Unbuilt = (m : ModuleType) × Derives bytes m × IsFirstOfFaults m rv64 None × (first_of m ≡ None)
+IsModuleVerdict bytes _ = ⊥
+
+-- the bytes derive a module without faults that is built
+pub record IsBuilt (bytes : List ℕ) : Type 0 where
+  pub source : ModuleType
+  pub derives : Derives bytes source
+  pub accepted : IsFirstOfFaults source rv64 None
+  pub kind : FirstModule
+  pub first : first_of source ≡ Some kind
+
+-- THE HEADLINE, and what the bytes of a schedule come to where they are refused
+abbrev pub IsRunVerdict : ModuleType → List ℕ → Verdict → Type 0
+IsRunVerdict m schedule (verdict.Text text) = (plan : Plan) × IsSchedule schedule m plan × IsTextOf m plan (string_bytes text)
+IsRunVerdict m schedule (verdict.Schedule line why) = IsFirstBad schedule m line why
+IsRunVerdict m schedule _ = ⊥
 
 abbrev pub limit_of : Part → ℕ
 limit_of Module = 4194304
@@ -55,12 +86,6 @@ name_of Schedule names = names.1
 abbrev pub asked_for : Part → List ℕ × List ℕ → List (List ℕ)
 asked_for Module names = names.0 ∷ []
 asked_for Schedule names = names.0 ∷ names.1 ∷ []
-
--- a module file whose bytes are of the first form, within its limit
-pub record IsBuilt (bytes : List ℕ) : Type 0 where
-  pub source : FirstModule
-  pub reads : IsFirstText bytes source
-  pub within : length bytes ≤ 4194304
 
 -- the files that a command was given, before it and after
 pub record Reading : Type 0 where
@@ -78,17 +103,20 @@ reading held asked_before asked faults_before faults taken = record { held = hel
 abbrev pub HasAsked : Reading → List (List ℕ) → Type 0
 HasAsked r names = r.asked ≡ r.asked_before ++ names
 
--- the module file is built, where its content is told
+-- what holds of a file's bytes where they are told, which are within its limit
+abbrev pub OfFile : Reading → Part → List ℕ × List ℕ → (List ℕ → Type 0) → Type 0
+OfFile r part names P = (bytes : List ℕ) → r.held (name_of part names) ≡ Some bytes → (length bytes ≤ limit_of part) × P bytes
+
+-- the module is built before the schedule is read
 abbrev pub EarlierBuilt : Reading → List ℕ × List ℕ → Part → Type 0
 EarlierBuilt r names Module = Unit {0}
-EarlierBuilt r names Schedule = (bytes : List ℕ) → r.held names.0 ≡ Some bytes → IsBuilt bytes
+EarlierBuilt r names Schedule = OfFile r Module names IsBuilt
 
--- a part isn't built: no module of the first form, or no schedule of it for the module
-abbrev pub NotBuilt : Reading → List ℕ × List ℕ → Part → Type 0
-NotBuilt r names Module = (bytes : List ℕ) → r.held names.0 ≡ Some bytes → (length bytes ≤ 4194304) × ((source : FirstModule) → ¬ IsFirstText bytes source)
-NotBuilt r names Schedule =
+-- what the bytes of both files come to
+abbrev pub OfBoth : Reading → List ℕ × List ℕ → Verdict → Type 0
+OfBoth r names v =
     (bytes schedule : List ℕ) → r.held names.0 ≡ Some bytes → r.held names.1 ≡ Some schedule
-    → (length schedule ≤ 16777216) × (b : IsBuilt bytes) × ((plan : Plan) → ¬ IsFirstSchedule schedule b.source.functions plan)
+    → (length bytes ≤ limit_of Module) × (length schedule ≤ limit_of Schedule) × (b : IsBuilt bytes) × IsRunVerdict b.source schedule v
 
 -- WHY A COMMAND COMES TO A VERDICT: the checks in their order, each where no earlier one answered. Want of memory is free.
 abbrev pub CauseOf : Reading → Option (List ℕ × List ℕ) → Verdict → Type 0
@@ -100,10 +128,13 @@ CauseOf r (Some names) verdict.Memory = HasAsked r [] ⊎ (HasAsked r (names.0 �
 CauseOf r (Some names) (verdict.ReadFault part) = HasAsked r (asked_for part names) × Rose r.faults_before r.faults × EarlierBuilt r names part
 CauseOf r (Some names) (verdict.TooLong part) =
     HasAsked r (asked_for part names) × (limit_of part < r.taken) × EarlierBuilt r names part × ((bytes : List ℕ) → r.held (name_of part names) ≡ Some bytes → limit_of part < length bytes)
-CauseOf r (Some names) (verdict.Unbuilt part) = HasAsked r (asked_for part names) × NotBuilt r names part
-CauseOf r (Some names) (verdict.Text text) =
-    HasAsked r (asked_for Schedule names)
-    × ((bytes schedule : List ℕ) → r.held names.0 ≡ Some bytes → r.held names.1 ≡ Some schedule → (length bytes ≤ 4194304) × (length schedule ≤ 16777216) × IsRunText bytes schedule (string_bytes text))
+CauseOf r (Some names) (verdict.Syntax line) = HasAsked r (names.0 ∷ []) × OfFile r Module names (λ bytes. IsModuleVerdict bytes (verdict.Syntax line))
+CauseOf r (Some names) (verdict.Opcode line) = HasAsked r (names.0 ∷ []) × OfFile r Module names (λ bytes. IsModuleVerdict bytes (verdict.Opcode line))
+CauseOf r (Some names) (verdict.Name line) = HasAsked r (names.0 ∷ []) × OfFile r Module names (λ bytes. IsModuleVerdict bytes (verdict.Name line))
+CauseOf r (Some names) (verdict.Refused number place) = HasAsked r (names.0 ∷ []) × OfFile r Module names (λ bytes. IsModuleVerdict bytes (verdict.Refused number place))
+CauseOf r (Some names) verdict.Unbuilt = HasAsked r (names.0 ∷ []) × OfFile r Module names (λ bytes. IsModuleVerdict bytes verdict.Unbuilt)
+CauseOf r (Some names) (verdict.Schedule line why) = HasAsked r (names.0 ∷ names.1 ∷ []) × OfBoth r names (verdict.Schedule line why)
+CauseOf r (Some names) (verdict.Text text) = HasAsked r (names.0 ∷ names.1 ∷ []) × OfBoth r names (verdict.Text text)
 
 -- A COMMAND'S ANSWER: a verdict that has its cause, written
 pub record IsServed (words : List (List ℕ)) (r : Reading) (w : Writing) (got : Done) : Type 0 where

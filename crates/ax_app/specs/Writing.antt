@@ -1,7 +1,9 @@
 -- What a verdict writes, and how the writing ends.
-use Rattle.std.specs.Prelude.{◌≡◌, ℕ, ◌⊎◌, List, [], ◌∷◌, ◌++◌, codes, take, Option, Some, None}
+use Rattle.std.specs.Prelude.{◌≡◌, ℕ, ◌⊎◌, List, [], ◌∷◌, ◌++◌, codes, decimal, take, Option, Some, None}
 use Rattle.std.specs.String.{string_bytes}
 use Rattle.ax_io.specs.Count.{Rose}
+use Rattle.ax_sched.specs.declared.fault.Cause.{Cause}
+use Rattle.ax_sched.specs.declared.fault.Cause.TheVariants as cause
 use Rattle.ax_app.specs.declared.done.Done.{Done}
 use Rattle.ax_app.specs.declared.done.Done.TheVariants as done
 use Rattle.ax_app.specs.declared.verdict.Part.{Part}
@@ -9,17 +11,29 @@ use Rattle.ax_app.specs.declared.verdict.Part.TheVariants.{Module, Schedule}
 use Rattle.ax_app.specs.declared.verdict.Verdict.{Verdict}
 use Rattle.ax_app.specs.declared.verdict.Verdict.TheVariants as verdict
 
--- the line of a refusal, or the text
-abbrev pub line_of : Part → List ℕ
-line_of Module = codes "module"
-line_of Schedule = codes "schedule"
+abbrev pub part_word : Part → List ℕ
+part_word Module = codes "module"
+part_word Schedule = codes "schedule"
 
+abbrev pub cause_word : Cause → List ℕ
+cause_word cause.Syntax = codes "syntax"
+cause_word cause.ProcessorRange = codes "range"
+cause_word cause.UnknownEntry = codes "entry"
+cause_word cause.UnknownObject = codes "object"
+cause_word cause.TooMany = codes "many"
+
+-- the line of a refusal, or the text
 abbrev pub written_of : Verdict → List ℕ
 written_of (verdict.Text text) = string_bytes text
 written_of verdict.Usage = codes "usage" ++ 10 ∷ []
-written_of (verdict.ReadFault part) = codes "read fault " ++ line_of part ++ 10 ∷ []
-written_of (verdict.TooLong part) = codes "too long " ++ line_of part ++ 10 ∷ []
-written_of (verdict.Unbuilt part) = codes "unbuilt " ++ line_of part ++ 10 ∷ []
+written_of (verdict.ReadFault part) = codes "read fault " ++ part_word part ++ 10 ∷ []
+written_of (verdict.TooLong part) = codes "too long " ++ part_word part ++ 10 ∷ []
+written_of (verdict.Syntax line) = codes "syntax " ++ decimal line ++ 10 ∷ []
+written_of (verdict.Opcode line) = codes "opcode " ++ decimal line ++ 10 ∷ []
+written_of (verdict.Name line) = codes "name " ++ decimal line ++ 10 ∷ []
+written_of (verdict.Refused number place) = codes "refused N" ++ decimal number ++ 32 ∷ string_bytes place ++ 10 ∷ []
+written_of verdict.Unbuilt = codes "unbuilt module" ++ 10 ∷ []
+written_of (verdict.Schedule line why) = codes "schedule " ++ decimal line ++ 32 ∷ cause_word why ++ 10 ∷ []
 written_of verdict.Memory = []
 
 abbrev pub answer_of : Verdict → Done
@@ -27,7 +41,12 @@ answer_of (verdict.Text text) = done.Ok
 answer_of verdict.Usage = done.Usage
 answer_of (verdict.ReadFault part) = done.ReadFault
 answer_of (verdict.TooLong part) = done.TooLong
-answer_of (verdict.Unbuilt part) = done.Unbuilt
+answer_of (verdict.Syntax line) = done.Syntax
+answer_of (verdict.Opcode line) = done.Syntax
+answer_of (verdict.Name line) = done.Syntax
+answer_of (verdict.Refused number place) = done.Refused
+answer_of verdict.Unbuilt = done.Unbuilt
+answer_of (verdict.Schedule line why) = done.Schedule
 answer_of verdict.Memory = done.Memory
 
 -- what was written, where it is told, grew by these bytes, or by the first of them

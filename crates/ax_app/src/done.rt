@@ -10,10 +10,16 @@ pub enum Done {
     Ok,
     /// The words are none of the forms.
     Usage,
-    /// The module or the schedule is of no form that is built.
-    Unbuilt,
+    /// The module's text derives no module.
+    Syntax,
+    /// The module has a fault.
+    Refused,
+    /// A line of the schedule is bad.
+    Schedule,
     /// A file has more bytes than its limit.
     TooLong,
+    /// The module is of no form that is built.
+    Unbuilt,
     /// A file could not be read.
     ReadFault,
     /// The text or the line could not be written.
@@ -30,8 +36,11 @@ impl Done {
         match self {
             Done::Ok => 0,
             Done::Usage => 2,
-            Done::Unbuilt => 7,
+            Done::Syntax => 3,
+            Done::Refused => 4,
+            Done::Schedule => 5,
             Done::TooLong => 6,
+            Done::Unbuilt => 7,
             Done::ReadFault => 74,
             Done::WriteFault => 75,
             Done::Memory => 71,

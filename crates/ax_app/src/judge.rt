@@ -1,17 +1,16 @@
 //! The checks of a command in their order, up to its text.
 
-ghost use Rattle.std.specs.Prelude.{◌≡◌, ◌≤◌, ℕ, List, map, MatchResult, Some, None};
+ghost use Rattle.std.specs.Prelude.{◌≡◌, ◌≤◌, ℕ, List, length, map, IfOk, MatchResult, Some, None};
 ghost use Rattle.std.specs.String.{string_bytes};
 ghost use Rattle.ax_app.specs.Answers.{run_form};
 ghost use Rattle.ax_app.specs.Serve.{reading, CauseOf, limit_of};
 ghost use Rattle.ax_app.specs.Reads.{ReadWhole, ReadFails};
 
+use crate::built::built_of;
 use crate::command::run_command;
-use crate::text::text_of;
+use crate::text::run_of;
 use crate::verdict::{Part, Verdict};
 use ax_io::{FileFault, Files};
-use ax_read::read_first;
-use ax_sched::read_first_schedule;
 use std::alloc::Global;
 
 /// The most bytes that a file may have.
@@ -33,6 +32,7 @@ fn read_part<F: Files>(
 ) -> Result<Vec<u8>, Verdict>
     ensures reads { MatchResult result (λ bytes. ReadWhole (reading (F.held files.old) (F.asked files.old) (F.asked files.new) (F.faults files.old) (F.faults files.new) (F.taken files.new)) part name.now bytes.items) (λ v. ReadFails (reading (F.held files.old) (F.asked files.old) (F.asked files.new) (F.faults files.old) (F.faults files.new) (F.taken files.new)) part name.now v) }
     ensures same { (n : List ℕ) → F.held files.new n ≡ F.held files.old n }
+    ensures length { IfOk result (λ bytes. length bytes.items ≤ limit_of part) }
 {
     match files.read(alloc, name, limit_of(part)) {
         Ok(bytes) => Ok(bytes),
@@ -55,24 +55,15 @@ fn judge_run<F: Files>(
         Ok(bytes) => bytes,
         Err(verdict) => return verdict,
     };
-    let source = match read_first(alloc, &bytes) {
-        Ok(Some(source)) => source,
-        Ok(None) => return Verdict::Unbuilt(Part::Module),
-        Err(_) => return Verdict::Memory,
+    let built = match built_of(alloc, &bytes) {
+        Ok(built) => built,
+        Err(verdict) => return verdict,
     };
     let schedule = match read_part(alloc, files, Part::Schedule, schedule_name) {
         Ok(bytes) => bytes,
         Err(verdict) => return verdict,
     };
-    let plan = match read_first_schedule(alloc, &schedule, source.functions.as_slice()) {
-        Ok(Some(plan)) => plan,
-        Ok(None) => return Verdict::Unbuilt(Part::Schedule),
-        Err(_) => return Verdict::Memory,
-    };
-    match text_of(alloc, source, &plan) {
-        Ok(text) => Verdict::Text(text),
-        Err(_) => Verdict::Memory,
-    }
+    run_of(alloc, built, &schedule)
 }
 
 /// What the words and the files come to. Nothing is written.

@@ -1,9 +1,11 @@
 //! The top call: words, files and a sink in, the answer out.
 #![tactic(auto)]
 
+pub mod built;
 mod command;
 pub mod done;
 mod judge;
+mod places;
 mod report;
 mod text;
 pub mod top;
@@ -13,5 +15,7 @@ pub use done::Done;
 pub use top::serve;
 pub use verdict::{Part, Verdict};
 
+#[cfg(test)]
+mod refusal_tests;
 #[cfg(test)]
 mod tests;

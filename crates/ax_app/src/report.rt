@@ -2,31 +2,47 @@
 
 ghost use Rattle.std.specs.Prelude.{◌≡◌, ◌++◌, ◌<◌, ◌≤◌, ◌^◌, OnOk, All, length};
 ghost use Rattle.std.specs.String.{string_bytes};
+ghost use Rattle.ax_ir.specs.declared.module.Module.{Module};
+ghost use Rattle.ax_first.specs.Alike.{IsProgramOf, on_rv64};
 ghost use Rattle.ax_isa.specs.Run.{Machine};
 ghost use Rattle.ax_run.specs.Machine.{Shows};
+ghost use Rattle.ax_store.specs.Bytes.{number_at};
+ghost use Rattle.ax_lower.specs.Layout.{HasElement, address_of};
+ghost use Rattle.ax_print.specs.Report.{object_line};
 ghost use Rattle.ax_app.specs.Report.{object_part, processor_part, lock_part, run_report};
 
+use ax_first::globals_are_words;
 use ax_lower::Name;
 use ax_print::{
-    push_end, push_head, push_lock, push_machine, push_object, push_outputs, push_processor,
-    push_source,
+    push_end, push_head, push_held, push_lock, push_machine, push_object, push_outputs,
+    push_processor, push_source,
 };
 use ax_run::Run;
 use std::alloc::AllocError;
 
-/// The lines of the globals whose number isn't 0.
-#[tactic(auto, using(crate::proofs::Reports::object_next))]
+/// The line of the one element of a global.
+fn push_element(out: &mut String, run: &Run, name: &Name, g: u32) -> Result<(), AllocError>
+    requires element { HasElement run.now.program g 0 }
+    requires bytes { All (λ b. b < 128) name.now }
+    ensures { (m : Machine) → Shows run.now.machine m → OnOk result (string_bytes out.new ≡ string_bytes out.old ++ object_line name.now 0 (number_at m.noted.storage.mem (address_of g) 8)) }
+{
+    match run.object(g, 0) {
+        Some(number) => push_object(out, name, 0, number),
+        None => push_held(out, name, 0),
+    }
+}
+
+/// The lines of the globals, of one element each.
 fn push_objects(out: &mut String, run: &Run, globals: &[Name]) -> Result<(), AllocError>
     requires count { length globals.now ≡ length run.now.program.globals }
     requires few { length globals.now < 2 ^ 32 }
     requires bytes { All (λ name. All (λ b. b < 128) name) globals.now }
-    ensures { (m : Machine) → Shows run.now.machine m → OnOk result (string_bytes out.new ≡ string_bytes out.old ++ object_part m 0 globals.now) }
+    ensures { (source : Module) → IsProgramOf source run.now.program → (m : Machine) → Shows run.now.machine m → OnOk result (string_bytes out.new ≡ string_bytes out.old ++ object_part (on_rv64 source) m.noted.storage.mem 0 globals.now) }
 {
+    globals_are_words();
     let mut g = 0;
     for name in globals {
-        if let Some(number) = run.object(g, 0) {
-            push_object(out, name, 0, number)?;
-        }
+        push_element(out, run, name, g)?;
         g += 1;
     }
     Ok(())
@@ -67,7 +83,7 @@ pub(crate) fn push_report(out: &mut String, run: &Run, globals: &[Name]) -> Resu
     requires count { length globals.now ≡ length run.now.program.globals }
     requires few { length globals.now < 2 ^ 32 }
     requires bytes { All (λ name. All (λ b. b < 128) name) globals.now }
-    ensures { (m : Machine) → Shows run.now.machine m → OnOk result (string_bytes out.new ≡ string_bytes out.old ++ run_report globals.now (length run.now.plan.entries) m run.now.machine.sources run.now.machine.events) }
+    ensures { (source : Module) → IsProgramOf source run.now.program → (m : Machine) → Shows run.now.machine m → OnOk result (string_bytes out.new ≡ string_bytes out.old ++ run_report (on_rv64 source) globals.now (length run.now.plan.entries) m run.now.machine.sources run.now.machine.events) }
 {
     push_head(out, run.processors(), run.machine_schedule().len() as u64)?;
     push_outputs(out, run.outputs())?;

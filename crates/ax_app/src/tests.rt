@@ -160,8 +160,8 @@ const EACH_ORDER: &str = "@a = global i64 7, align 8
 @b = global i64 0, align 8
 declare void @out(i64)
 define void @f() {
-  %0 = load atomic i64, ptr @a monotonic, align 8
-  store atomic i64 %0, ptr @b release, align 8
+  %1 = load atomic i64, ptr @a monotonic, align 8
+  store atomic i64 %1, ptr @b release, align 8
   %2 = load atomic i64, ptr @b acquire, align 8
   call void @out(i64 %2)
   store atomic i64 3, ptr @a seq_cst, align 8
@@ -171,10 +171,10 @@ define void @f() {
   ret void
 }
 define void @g() {
-  %0 = atomicrmw add ptr @a, i64 1 monotonic, align 8
-  %1 = atomicrmw add ptr @a, i64 1 acquire, align 8
-  %2 = atomicrmw add ptr @a, i64 1 release, align 8
-  %3 = atomicrmw add ptr @a, i64 1 acq_rel, align 8
+  %r0 = atomicrmw add ptr @a, i64 1 monotonic, align 8
+  %r1 = atomicrmw add ptr @a, i64 1 acquire, align 8
+  %r2 = atomicrmw add ptr @a, i64 1 release, align 8
+  %r3 = atomicrmw add ptr @a, i64 1 acq_rel, align 8
   ret void
 }
 ";
@@ -257,6 +257,79 @@ machine S0*28 S1*17
 end
 ";
 
+// *Two additions* cut in its sixth line, with a wrong name in its seventh, and after clang's form.
+const CUT: &str = "@x = global i64 0, align 8
+declare void @out(i64)
+define void @f() {
+  %1 = atomicrmw add ptr @x, i64 1 seq_cst, align 8
+  call void @out(i64 %1)
+  %2 = atomicrmw add ptr";
+
+const UNDECLARED: &str = "@x = global i64 0, align 8
+declare void @out(i64)
+define void @f() {
+  %1 = atomicrmw add ptr @x, i64 1 seq_cst, align 8
+  call void @out(i64 %1)
+  %2 = atomicrmw add ptr @x, i64 1 seq_cst, align 8
+  call void @out(i64 %9)
+  ret void
+}
+";
+
+const CLANG: &str = "; ModuleID = 'two.c'\r
+source_filename = \"two.c\"\r
+target triple = \"riscv64-unknown-linux-gnu\"
+
+@\"x\" = dso_local local_unnamed_addr global i64 0, align 8
+
+; Function Attrs: nounwind
+define dso_local void @f() local_unnamed_addr #0 {
+  %1 = atomicrmw add ptr @x, i64 1 seq_cst, align 8, !tbaa !5
+  tail call void @out(i64 noundef %1) #2\r
+  %2 = atomicrmw volatile add ptr @x, i64 1 seq_cst, align 8 ; again
+  call void @out(i64 noundef %2) #2
+  ret void
+}
+
+declare void @out(i64 noundef) local_unnamed_addr #1
+
+attributes #0 = { nounwind \"frame-pointer\"=\"all\" }
+!0 = !{i32 1, !\"wchar_size\", i32 4}
+!5 = !{!0, i64 0}
+";
+
+const UNKNOWN: &str = "@x = global i64 0, align 8
+declare void @out(i64)
+define void @f() {
+  %1 = fdiv float %a, %b
+  ret void
+}
+";
+
+const BAD_ORDER: &str = "@x = global i32 0, align 4
+define void @a() {
+  %1 = load atomic i32, ptr @x release, align 4
+  ret void
+}
+";
+
+const ROUND: &str = "report
+target rv64
+processors 2
+events 26
+output 0 0
+output 1 1
+output 0 2
+output 1 3
+object @x 0 4
+processor 0 ended 0 retired 13 pending 0
+processor 1 ended 0 retired 13 pending 0
+source A0 A1 A0 A1 A0 A1 A0 A1 A0 A1
+machine S0 S1 S0 S1 S0 S1 S0 S1 S0 S1 S0 S1 S0 S1 S0 S1
+machine S0 S1 S0 S1 S0 S1 S0 S1 S0 S1
+end
+";
+
 fn bytes_of(alloc: Global, texts: &[&str]) -> Result<Vec<u8>, AllocError> {
     let mut bytes = Vec::new(alloc);
     for text in texts {
@@ -305,7 +378,7 @@ fn additions(alloc: Global, count: u32, last: &str) -> Result<String, AllocError
     for i in 0..count {
         write!(
             text,
-            "  %{i} = atomicrmw add ptr @x, i64 1 seq_cst, align 8\n"
+            "  %v{i} = atomicrmw add ptr @x, i64 1 seq_cst, align 8\n"
         )?;
     }
     text.push_str(last)?;
@@ -354,6 +427,7 @@ fn runs_of_two_additions(rt: HostRuntime) -> Result<(), Fail> {
             IN_TURNS,
         ),
         ("processors @f @f\nstep 0 9\nstep 1 13\nstep 0 4\n", BETWEEN),
+        ("# two\n\n processors\t@f @\"f\"\r\nround 26\n", ROUND),
     ];
     for (schedule, report) in table {
         let (done, written) = served(alloc, "run rv64 m s", Some(TWO_ADDITIONS), schedule, None)?;
@@ -365,9 +439,42 @@ fn runs_of_two_additions(rt: HostRuntime) -> Result<(), Fail> {
 }
 
 #[test]
+fn as_clang_writes_it(rt: HostRuntime) -> Result<(), Fail> {
+    let schedule = "processors @f\nstep 0 200\n";
+    let (done, written) = served(rt.alloc(), "run rv64 m s", Some(CLANG), schedule, None)?;
+    assert_eq!(rt; done.code(), 0);
+    let text = bytes_of(rt.alloc(), &[ASSEMBLY, REPORT])?;
+    assert!(rt; written.as_slice() == text.as_slice());
+    Ok(())
+}
+
+#[test]
+fn bad_schedules(rt: HostRuntime) -> Result<(), Fail> {
+    let alloc = rt.alloc();
+    let table = [
+        ("", "schedule 1 syntax\n"),
+        ("processors @g\n", "schedule 1 entry\n"),
+        ("processors\n", "schedule 1 range\n"),
+        ("processors @f\nstep 1 5\n", "schedule 2 range\n"),
+        ("processors @f\nstep 0 1000001\n", "schedule 2 many\n"),
+        ("# a\n\nprocessors @f\nstep 0 0200\n", "schedule 4 syntax\n"),
+        ("processors @f\nlink 0 1\n", "schedule 2 syntax\n"),
+        (
+            "processors @f\nround 600000\nstep 0 400001\n",
+            "schedule 3 many\n",
+        ),
+    ];
+    for (schedule, line) in table {
+        let (done, written) = served(alloc, "run rv64 m s", Some(TWO_ADDITIONS), schedule, None)?;
+        assert_eq!(rt; done.code(), 5);
+        assert!(rt; written.as_slice() == line.as_bytes(), "{schedule}");
+    }
+    Ok(())
+}
+
+#[test]
 fn refusals(rt: HostRuntime) -> Result<(), Fail> {
     let alloc = rt.alloc();
-    let drains = "processors @f\ndrain 0 1\n";
     let plain = "processors @f\nstep 0 200\n";
     let table = [
         ("", Some(TWO_ADDITIONS), plain, 2, "usage\n"),
@@ -382,19 +489,15 @@ fn refusals(rt: HostRuntime) -> Result<(), Fail> {
             "read fault schedule\n",
         ),
         ("run rv64 m s", Some(""), plain, 7, "unbuilt module\n"),
+        ("run rv64 m s", Some(CUT), plain, 3, "syntax 6\n"),
+        ("run rv64 m s", Some(UNDECLARED), plain, 3, "name 7\n"),
+        ("run rv64 m s", Some(UNKNOWN), plain, 3, "opcode 4\n"),
         (
             "run rv64 m s",
-            Some(TWO_ADDITIONS),
-            drains,
-            7,
-            "unbuilt schedule\n",
-        ),
-        (
-            "run rv64 m s",
-            Some(TWO_ADDITIONS),
-            "",
-            7,
-            "unbuilt schedule\n",
+            Some(BAD_ORDER),
+            plain,
+            4,
+            "refused N6 @a 0\n",
         ),
     ];
     for (line, module, schedule, code, text) in table {
@@ -422,11 +525,11 @@ fn limits(rt: HostRuntime) -> Result<(), Fail> {
     let alloc = rt.alloc();
     let rows = [
         (256, 1, 1, 0),
-        (257, 1, 1, 7),
+        (257, 1, 1, 4),
         (1, 64, 1, 0),
-        (1, 65, 1, 7),
+        (1, 65, 1, 4),
         (1, 1, 2047, 0),
-        (1, 1, 2048, 7),
+        (1, 1, 2048, 4),
     ];
     for (globals, functions, lines, code) in rows {
         let text = many(alloc, globals, functions, lines)?;
@@ -434,7 +537,7 @@ fn limits(rt: HostRuntime) -> Result<(), Fail> {
         let (done, _) = served(alloc, "run rv64 m s", Some(text.as_str()), schedule, None)?;
         assert_eq!(rt; done.code(), code, "{globals} {functions} {lines}");
     }
-    for (module, code) in [(GREATEST, 0), (TOO_GREAT, 7)] {
+    for (module, code) in [(GREATEST, 0), (TOO_GREAT, 4)] {
         let schedule = "processors @b_Y8\nstep 0 1\n";
         let (done, _) = served(alloc, "run rv64 m s", Some(module), schedule, None)?;
         assert_eq!(rt; done.code(), code, "{module}");
@@ -450,7 +553,7 @@ fn limits(rt: HostRuntime) -> Result<(), Fail> {
 fn slots_out_of_reach(rt: HostRuntime) -> Result<(), Fail> {
     let schedule = "processors @f\nstep 0 20000\n";
     for (count, last, report) in [
-        (2046, "  call void @out(i64 %2045)\n", FAR_SLOTS),
+        (2046, "  call void @out(i64 %v2045)\n", FAR_SLOTS),
         (2047, "", ALL_SLOTS),
     ] {
         let text = additions(rt.alloc(), count, last)?;

@@ -1,30 +1,80 @@
 //! The call that does all that the program does.
 
-ghost use Rattle.std.specs.Prelude.{◌≡◌, ◌≢◌, map, codes, ◌++◌, ◌∷◌, []};
+ghost use Rattle.std.specs.Prelude.{◌≡◌, map, codes, decimal, ◌++◌, ◌∷◌, [], IfOk};
 ghost use Rattle.std.specs.String.{string_bytes};
-ghost use Rattle.ax_app.specs.Writing.{writing, Writes, written_of, answer_of};
+ghost use Rattle.ax_app.specs.Writing.{writing, Writes, written_of, answer_of, part_word, cause_word};
 ghost use Rattle.ax_app.specs.Serve.{reading, IsServed};
-ghost use Rattle.ax_app.specs.declared.done.Done.{Done};
 
 use crate::done::Done;
 use crate::judge::judge;
 use crate::verdict::{Part, Verdict};
 use ax_io::{Files, Sink, SinkFault};
-use std::alloc::Global;
+use ax_sched::Cause;
+use std::alloc::{AllocError, Global};
 
-fn line_of(verdict: &Verdict) -> &str
-    ensures { result.now ≡ written_of verdict.now }
+fn part_word(part: Part) -> &'static str
+    ensures { result.now ≡ part_word part }
+{
+    match part {
+        Part::Module => "module",
+        Part::Schedule => "schedule",
+    }
+}
+
+fn cause_word(cause: Cause) -> &'static str
+    ensures { result.now ≡ cause_word cause }
+{
+    match cause {
+        Cause::Syntax => "syntax",
+        Cause::ProcessorRange => "range",
+        Cause::UnknownEntry => "entry",
+        Cause::UnknownObject => "object",
+        Cause::TooMany => "many",
+    }
+}
+
+fn refused_line(alloc: Global, number: u8, place: &str) -> Result<String, AllocError>
+    ensures { IfOk result (λ text. string_bytes text ≡ codes "refused N" ++ decimal number ++ 32 ∷ place.now ++ 10 ∷ []) }
+{
+    let mut line = String::new(alloc);
+    write!(line, "refused N{number} ")?;
+    line.push_str(place)?;
+    line.push_str("\n")?;
+    Ok(line)
+}
+
+fn schedule_line(alloc: Global, line: u32, cause: &str) -> Result<String, AllocError>
+    ensures { IfOk result (λ text. string_bytes text ≡ codes "schedule " ++ decimal line ++ 32 ∷ cause.now ++ 10 ∷ []) }
+{
+    let mut text = String::new(alloc);
+    write!(text, "schedule {line} ")?;
+    text.push_str(cause)?;
+    text.push_str("\n")?;
+    Ok(text)
+}
+
+/// What a verdict writes.
+fn text_of(alloc: Global, verdict: Verdict) -> Result<String, AllocError>
+    ensures { IfOk result (λ text. string_bytes text ≡ written_of verdict) }
 {
     match verdict {
-        Verdict::Text(text) => text.as_str(),
-        Verdict::Usage => "usage\n",
-        Verdict::ReadFault(Part::Module) => "read fault module\n",
-        Verdict::ReadFault(Part::Schedule) => "read fault schedule\n",
-        Verdict::TooLong(Part::Module) => "too long module\n",
-        Verdict::TooLong(Part::Schedule) => "too long schedule\n",
-        Verdict::Unbuilt(Part::Module) => "unbuilt module\n",
-        Verdict::Unbuilt(Part::Schedule) => "unbuilt schedule\n",
-        Verdict::Memory => "",
+        Verdict::Text(text) => Ok(text),
+        Verdict::Usage => format!(in alloc; "usage\n"),
+        Verdict::ReadFault(part) => {
+            let part = part_word(part);
+            format!(in alloc; "read fault {part}\n")
+        }
+        Verdict::TooLong(part) => {
+            let part = part_word(part);
+            format!(in alloc; "too long {part}\n")
+        }
+        Verdict::Syntax { line } => format!(in alloc; "syntax {line}\n"),
+        Verdict::Opcode { line } => format!(in alloc; "opcode {line}\n"),
+        Verdict::Name { line } => format!(in alloc; "name {line}\n"),
+        Verdict::Refused { number, place } => refused_line(alloc, number, place.as_str()),
+        Verdict::Unbuilt => format!(in alloc; "unbuilt module\n"),
+        Verdict::Schedule { line, cause } => schedule_line(alloc, line, cause_word(cause)),
+        Verdict::Memory => Ok(String::new(alloc)),
     }
 }
 
@@ -36,7 +86,10 @@ fn answer_of(verdict: &Verdict) -> Done
         Verdict::Usage => Done::Usage,
         Verdict::ReadFault(_) => Done::ReadFault,
         Verdict::TooLong(_) => Done::TooLong,
-        Verdict::Unbuilt(_) => Done::Unbuilt,
+        Verdict::Syntax { .. } | Verdict::Opcode { .. } | Verdict::Name { .. } => Done::Syntax,
+        Verdict::Refused { .. } => Done::Refused,
+        Verdict::Unbuilt => Done::Unbuilt,
+        Verdict::Schedule { .. } => Done::Schedule,
         Verdict::Memory => Done::Memory,
     }
 }
@@ -52,6 +105,17 @@ fn told<S: Sink>(sink: &mut S, bytes: &[u8], answer: Done) -> Done
     }
 }
 
+/// Writes what a verdict says, and gives its answer.
+fn write<S: Sink>(alloc: Global, sink: &mut S, verdict: Verdict) -> Done
+    ensures { Writes (writing (S.written sink.old) (S.written sink.new) (S.faults sink.old) (S.faults sink.new)) (written_of verdict) (answer_of verdict) result }
+{
+    let answer = answer_of(&verdict);
+    match text_of(alloc, verdict) {
+        Ok(text) => told(sink, text.as_bytes(), answer),
+        Err(_) => Done::Memory,
+    }
+}
+
 /// Does what the words say, with these files, and writes to the sink: `run rv64 MODULE SCHEDULE`
 /// writes the assembly of the module's image for RV64 and then the report of its run under the
 /// schedule. A refusal writes its line alone.
@@ -64,5 +128,5 @@ pub fn serve<F: Files, S: Sink>(
     ensures { IsServed (map string_bytes words.now) (reading (F.held files.old) (F.asked files.old) (F.asked files.new) (F.faults files.old) (F.faults files.new) (F.taken files.new)) (writing (S.written sink.old) (S.written sink.new) (S.faults sink.old) (S.faults sink.new)) result }
 {
     let verdict = judge(alloc, words, files);
-    told(sink, line_of(&verdict).as_bytes(), answer_of(&verdict))
+    write(alloc, sink, verdict)
 }

@@ -7,11 +7,11 @@ use Rattle.std.proofs.lemmas.Option.{cond_some, option_and_then_some, same_Some,
 use Rattle.ax_ir.specs.declared.inst.Inst.{Inst}
 use Rattle.ax_ir.specs.declared.module.Block.{Block}
 use Rattle.ax_ir.specs.declared.module.Function.{Function}
-use Rattle.ax_source.specs.WellFormed.{HasResult, IsOperand, IsInst, IsFunction}
-use Rattle.ax_source.specs.declared.first.FirstInst.{FirstInst}
-use Rattle.ax_source.specs.declared.first.FirstInst.TheVariants as first
-use Rattle.ax_source.specs.declared.first.FirstValue.{FirstValue}
-use Rattle.ax_source.specs.declared.first.FirstValue.TheVariants as value
+use Rattle.ax_first.specs.WellFormed.{HasResult, IsOperand, IsInst, IsFunction}
+use Rattle.ax_first.specs.declared.first.FirstInst.{FirstInst}
+use Rattle.ax_first.specs.declared.first.FirstInst.TheVariants as first
+use Rattle.ax_first.specs.declared.first.FirstValue.{FirstValue}
+use Rattle.ax_first.specs.declared.first.FirstValue.TheVariants as value
 use Rattle.ax_first.specs.FirstKind.{inst_of, insts_after, is_empty, ends_in_return, body_of, function_of}
 use Rattle.ax_first.proofs.Options.{allowed}
 use Rattle.ax_first.proofs.Operands.{Means, MeansNext, inst_means}

@@ -5,7 +5,7 @@ use Rattle.std.proofs.Math.ListN.{drop_of_length-le}
 use Rattle.std.proofs.lemmas.List.{length-drop}
 use Rattle.std.proofs.lemmas.Bool.Decides.{nat_tests}
 use Rattle.ax_ir.specs.declared.inst.Inst.{Inst}
-use Rattle.ax_source.specs.declared.first.FirstInst.{FirstInst}
+use Rattle.ax_first.specs.declared.first.FirstInst.{FirstInst}
 use Rattle.ax_first.specs.FirstKind.{inst_of, insts_after, is_empty, is_return, ends_in_return}
 
 pub insts_none : (globals : ℕ) (before : List FirstInst) (xs : List Inst) (x : Inst) (rest : List Inst) (whole : Option (List FirstInst)) → insts_after globals before xs ≡ whole → xs ≡ x ∷ rest → inst_of globals before x ≡ None → None ≡ whole

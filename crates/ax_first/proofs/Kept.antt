@@ -8,7 +8,7 @@ use Rattle.ax_ir.specs.declared.module.Function.{Function}
 use Rattle.ax_ir.specs.declared.module.Global.{Global}
 use Rattle.ax_ir.specs.declared.module.Module.{Module}
 use Rattle.ax_ir.specs.declared.operand.Operand.{Operand}
-use Rattle.ax_source.specs.declared.first.FirstInst.{FirstInst}
+use Rattle.ax_first.specs.declared.first.FirstInst.{FirstInst}
 use Rattle.ax_first.specs.declared.module.FirstModule.{FirstModule}
 use Rattle.ax_first.specs.FirstKind.{is_i64, is_alignment, initial_of, initial_number, each_of, function_of, is_within, first_module, first_of}
 use Rattle.ax_first.specs.Kept.{IsKept, EachIsKept}

@@ -4,3 +4,5 @@ pub mod Options
 pub mod Operands
 pub mod Bodies
 pub mod Kept
+pub mod Places
+pub mod Runs

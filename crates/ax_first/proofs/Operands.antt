@@ -19,11 +19,11 @@ use Rattle.ax_ir.specs.declared.operand.Base.TheVariants as base
 use Rattle.ax_ir.specs.declared.operand.Operand.{Operand}
 use Rattle.ax_ir.specs.declared.operand.Operand.TheVariants as operand
 use Rattle.ax_ir.specs.declared.types.Ty.{Ty}
-use Rattle.ax_source.specs.WellFormed.{IsLoadOrder, IsStoreOrder, IsRmwOrder, HasResult, IsOperand}
-use Rattle.ax_source.specs.declared.first.FirstInst.{FirstInst}
-use Rattle.ax_source.specs.declared.first.FirstInst.TheVariants as first
-use Rattle.ax_source.specs.declared.first.FirstValue.{FirstValue}
-use Rattle.ax_source.specs.declared.first.FirstValue.TheVariants as value
+use Rattle.ax_first.specs.WellFormed.{IsLoadOrder, IsStoreOrder, IsRmwOrder, HasResult, IsOperand}
+use Rattle.ax_first.specs.declared.first.FirstInst.{FirstInst}
+use Rattle.ax_first.specs.declared.first.FirstInst.TheVariants as first
+use Rattle.ax_first.specs.declared.first.FirstValue.{FirstValue}
+use Rattle.ax_first.specs.declared.first.FirstValue.TheVariants as value
 use Rattle.ax_first.specs.FirstKind.{number_of, constant_of, has_result_at, operand_of, global_at, global_of, order_of, load_of, store_of, addition_of, is_out, is_i64, output_of, is_plain_access, inst_of}
 use Rattle.ax_first.proofs.Options.{allowed, mapped}
 

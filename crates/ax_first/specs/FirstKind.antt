@@ -23,10 +23,10 @@ use Rattle.ax_ir.specs.declared.operand.Operand.{Operand}
 use Rattle.ax_ir.specs.declared.operand.Operand.TheVariants as operand
 use Rattle.ax_ir.specs.declared.types.Ty.{Ty}
 use Rattle.ax_ir.specs.declared.types.Ty.TheVariants.{I64}
-use Rattle.ax_source.specs.declared.first.FirstInst.{FirstInst}
-use Rattle.ax_source.specs.declared.first.FirstInst.TheVariants as first
-use Rattle.ax_source.specs.declared.first.FirstValue.{FirstValue}
-use Rattle.ax_source.specs.declared.first.FirstValue.TheVariants as value
+use Rattle.ax_first.specs.declared.first.FirstInst.{FirstInst}
+use Rattle.ax_first.specs.declared.first.FirstInst.TheVariants as first
+use Rattle.ax_first.specs.declared.first.FirstValue.{FirstValue}
+use Rattle.ax_first.specs.declared.first.FirstValue.TheVariants as value
 use Rattle.ax_first.specs.declared.module.FirstModule.{FirstModule}
 
 -- ---- values and places

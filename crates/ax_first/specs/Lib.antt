@@ -1,2 +1,5 @@
+pub mod WellFormed
+pub mod FirstSource
 pub mod FirstKind
 pub mod Kept
+pub mod Alike

@@ -4,9 +4,9 @@ ghost use Rattle.std.specs.Prelude.{◌≡◌, IfOk, [], map};
 ghost use Rattle.std.specs.Option.{option_map};
 ghost use Rattle.ax_first.specs.FirstKind.{insts_after, is_return, ends_in_return, body_of, function_of};
 
+use crate::first::FirstInst;
 use crate::inst::inst_of;
 use ax_ir::{Block, Function, Inst};
-use ax_source::FirstInst;
 use std::alloc::{AllocError, Global};
 
 fn insts_of(

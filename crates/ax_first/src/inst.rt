@@ -3,10 +3,10 @@
 ghost use Rattle.std.specs.Prelude.{◌≡◌};
 ghost use Rattle.ax_first.specs.FirstKind.{inst_of, load_of, store_of, addition_of, output_of, is_plain_access};
 
+use crate::first::FirstInst;
 use crate::value::{global_of, is_i64, operand_of, order_of};
 use ax_ir::{Addr, Arg, Inst, Name, Operand, Ty};
 use ax_ops::{Access, Order, RmwOp};
-use ax_source::FirstInst;
 
 fn is_plain_access(ty: Ty, align: u64) -> bool
     ensures { result ≡ is_plain_access ty align }

@@ -6,10 +6,11 @@ ghost use Rattle.ax_first.specs.FirstKind.{is_alignment, initial_of, initial_num
 ghost use Rattle.ax_first.specs.Kept.{IsKept, EachIsKept};
 
 use crate::body::function_of;
+use crate::first::{First, FirstInst};
+use crate::names::{function_names, global_names};
 use crate::value::{constant_of, is_i64};
 use ax_ir::{Function, Global as Variable, Module, Name, Operand};
 use ax_ops::Items;
-use ax_source::{First, FirstInst};
 use std::alloc::{AllocError, Global};
 
 /// A module of the first kind: the names of its globals and functions, and its program.
@@ -74,32 +75,6 @@ fn functions_of(
         }
     }
     Ok(Some(bodies))
-}
-
-fn copied(alloc: Global, name: &Name) -> Result<Name, AllocError>
-    ensures { IfOk result (λ n. n ≡ name.now) }
-{
-    Ok(Name::of(Vec::from_slice(alloc, name.as_bytes())?))
-}
-
-fn global_names(alloc: Global, globals: &[Variable]) -> Result<Vec<Name>, AllocError>
-    ensures { IfOk result (λ v. v.items ≡ map (λ g. g.name) globals.now) }
-{
-    let mut names = Vec::with_capacity(alloc, globals.len())?;
-    for global in globals {
-        names.push(copied(alloc, &global.name)?)?;
-    }
-    Ok(names)
-}
-
-fn function_names(alloc: Global, functions: &[Function]) -> Result<Vec<Name>, AllocError>
-    ensures { IfOk result (λ v. v.items ≡ map (λ f. f.name) functions.now) }
-{
-    let mut names = Vec::with_capacity(alloc, functions.len())?;
-    for function in functions {
-        names.push(copied(alloc, &function.name)?)?;
-    }
-    Ok(names)
 }
 
 fn is_within(module: &Module) -> bool

@@ -1,9 +1,8 @@
-use crate::{FirstModule, first_of};
+use crate::{First, FirstInst, FirstModule, FirstValue, first_of};
 use ax_ir::{
     Addr, Arg, Base, Block, Function, Global as Variable, Inst, Module, Name, Operand, Ty,
 };
 use ax_ops::{Items, Order, RmwOp};
-use ax_source::{First, FirstInst, FirstValue};
 use std::alloc::{AllocError, Global};
 use std::test::Fail;
 

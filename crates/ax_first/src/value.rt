@@ -3,9 +3,9 @@
 ghost use Rattle.std.specs.Prelude.{◌≡◌};
 ghost use Rattle.ax_first.specs.FirstKind.{is_i64, number_of, constant_of, has_result, operand_of, global_of, order_of};
 
+use crate::first::{FirstInst, FirstValue};
 use ax_ir::{Addr, Base, Operand, Ty};
 use ax_ops::{Access, Order, abi_number, legal};
-use ax_source::{FirstInst, FirstValue};
 
 pub(crate) fn is_i64(ty: Ty) -> bool
     ensures { result ≡ is_i64 ty }

@@ -19,11 +19,11 @@ use Rattle.ax_isa.specs.Run.{Given, An_act, A_miss, frame_base}
 use Rattle.ax_isa.specs.Contract.{Did, ByOwn, MayWrite, machine_status, Happening, Possible, OwnStep, InStep, Steppable}
 use Rattle.ax_rv.specs.declared.instructions.RvInstr.{RvInstr}
 use Rattle.ax_rv.specs.Instructions.{rv_kind, effect_of}
-use Rattle.ax_source.specs.declared.first.First.{First}
-use Rattle.ax_source.specs.declared.first.FirstInst.{FirstInst}
-use Rattle.ax_source.specs.declared.first.FirstInst.TheVariants.{Load as Read, Store as Write, Add as Plus, Out, Ret}
-use Rattle.ax_source.specs.declared.first.FirstValue.{FirstValue}
-use Rattle.ax_source.specs.Source.{SourceProcessor, deed, gets, goes_on, inst_at, value_of, element_set}
+use Rattle.ax_first.specs.declared.first.First.{First}
+use Rattle.ax_first.specs.declared.first.FirstInst.{FirstInst}
+use Rattle.ax_first.specs.declared.first.FirstInst.TheVariants.{Load as Read, Store as Write, Add as Plus, Out, Ret}
+use Rattle.ax_first.specs.declared.first.FirstValue.{FirstValue}
+use Rattle.ax_first.specs.FirstSource.{SourceProcessor, deed, gets, goes_on, inst_at, value_of, element_set}
 use Rattle.ax_lower.specs.Layout.{address_of}
 use Rattle.ax_lower.proofs.Meaning.{Numbers, meaning_of, did, did_at, numbers_in}
 use Rattle.ax_lower.proofs.Quiet.{at_same, at_other}

@@ -20,13 +20,13 @@ use Rattle.ax_isa.specs.Run.{Machine, tag_at, run, explain, idle_run, frame_base
 use Rattle.ax_isa.specs.Contract.{Whole, machine_status, meant_run, Follows}
 use Rattle.ax_rv.specs.declared.instructions.RvInstr.{RvInstr}
 use Rattle.ax_rv.specs.Instructions.{rv_kind}
-use Rattle.ax_source.specs.declared.first.First.{First}
-use Rattle.ax_source.specs.declared.first.FirstInst.{FirstInst}
-use Rattle.ax_source.specs.WellFormed.{IsFirst, IsWithinLimits, AreEntries}
-use Rattle.ax_source.specs.Source.{SourceProcessor, SourceState, source_run, source_start, first_processor, first_numbers}
+use Rattle.ax_first.specs.declared.first.First.{First}
+use Rattle.ax_first.specs.declared.first.FirstInst.{FirstInst}
+use Rattle.ax_first.specs.WellFormed.{IsFirst, IsWithinLimits, AreEntries}
+use Rattle.ax_first.specs.FirstSource.{SourceProcessor, SourceState, source_run, source_start, first_processor, first_numbers}
 use Rattle.ax_lower.specs.Layout.{address_of, end_of, initial_byte, objects_of}
-use Rattle.ax_lower.specs.Agree.{Agree}
-use Rattle.ax_lower.specs.Lowers.{start_of, run_of, explained_by, Lowers, NeverIdles}
+use Rattle.ax_lower.specs.FirstAgree.{FirstAgree}
+use Rattle.ax_lower.specs.FirstLowers.{start_of, run_of, explained_by, FirstLowers, FirstNeverIdles}
 use Rattle.ax_lower.specs.Code.{program_code, entries_from, frames_of, IsImageOf}
 use Rattle.ax_lower.proofs.Runs.{Begins, Agreed, run_follows}
 use Rattle.ax_lower.proofs.Meaning.{Numbers, meaning_of, numbers_in, size_or, slot, Matched}
@@ -187,7 +187,7 @@ module _ (image : Image RvInstr) (program : First) (first : IsFirst program) (li
     agreed : (events : List Event) → Agreed rv_kind image.code (tag_at image.tags) (meaning_of program places) 8 (run_of image program entries events) (meant_run (meaning_of program places) (explained_by image program entries events) (whole_of (source_start program entries))) (idle_run rv_kind image.code (tag_at image.tags) events begun (λ p. 0))
     agreed events = run_follows rv_kind image.code (tag_at image.tags) (meaning_of program places) 8 code_follows (λ p st. refl) (whole_of (source_start program entries)) begun begins_run reached_fits events
 
-    pub agrees : (events : List Event) → Agree (objects_of program) (run_of image program entries events) (source_run program (explained_by image program entries events) (source_start program entries))
+    pub agrees : (events : List Event) → FirstAgree (objects_of program) (run_of image program entries events) (source_run program (explained_by image program entries events) (source_start program entries))
     agrees events =
         let s = source_run program (explained_by image program entries events) (source_start program entries) in
         let is = run_meant program places (explained_by image program entries events) (source_start program entries) in
@@ -204,8 +204,8 @@ module _ (image : Image RvInstr) (program : First) (first : IsFirst program) (li
     pub never_idles : (events : List Event) (p : ℕ) → idle_run rv_kind image.code (tag_at image.tags) events begun (λ q. 0) p < 4096
     never_idles events p = (let h = (agreed events).few p in omega (arith, h))
 
-  pub lowers : Lowers image program
+  pub lowers : FirstLowers image program
   lowers = record { agrees = agrees }
 
-  pub no_idling : NeverIdles image program
+  pub no_idling : FirstNeverIdles image program
   no_idling = record { few = never_idles }

@@ -14,3 +14,4 @@ pub mod Agreement
 pub mod Soundness
 pub mod Marks
 pub mod Emitted
+pub mod Whole

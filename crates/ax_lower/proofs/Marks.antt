@@ -13,16 +13,17 @@ use Rattle.ax_isa.specs.Run.{tag_at}
 use Rattle.ax_rv.specs.declared.instructions.RvInstr.{RvInstr}
 use Rattle.ax_rv.specs.declared.instructions.RvInstr.TheVariants.{Li, Ld, Sd, AmoAdd, Ret, Ecall}
 use Rattle.ax_rv.specs.Skeleton.{skeleton, mark_of}
-use Rattle.ax_source.specs.declared.first.First.{First}
-use Rattle.ax_source.specs.declared.first.FirstInst.{FirstInst}
-use Rattle.ax_source.specs.declared.first.FirstInst.TheVariants.{Load, Store, Add as Plus, Out, Ret as Return}
-use Rattle.ax_source.specs.declared.first.FirstValue.{FirstValue}
-use Rattle.ax_source.specs.declared.first.FirstValue.TheVariants.{Const, Result}
-use Rattle.ax_source.specs.WellFormed.{IsFirst, IsWithinLimits, IsInst, IsLoadOrder, IsStoreOrder, IsRmwOrder}
-use Rattle.ax_source.specs.Source.{inst_in, inst_at}
+use Rattle.ax_first.specs.declared.first.First.{First}
+use Rattle.ax_first.specs.declared.first.FirstInst.{FirstInst}
+use Rattle.ax_first.specs.declared.first.FirstInst.TheVariants.{Load, Store, Add as Plus, Out, Ret as Return}
+use Rattle.ax_first.specs.declared.first.FirstValue.{FirstValue}
+use Rattle.ax_first.specs.declared.first.FirstValue.TheVariants.{Const, Result}
+use Rattle.ax_first.specs.WellFormed.{IsFirst, IsWithinLimits, IsInst, IsLoadOrder, IsStoreOrder, IsRmwOrder}
+use Rattle.ax_first.specs.FirstSource.{inst_in, inst_at}
 use Rattle.ax_lower.specs.Layout.{address_of}
 use Rattle.ax_lower.specs.Code.{Piece, near_load, far_load, slot_load, near_store, far_store, slot_store, operand, before_load, after_load, before_store, ending_of, piece_of, function_code, program_code, sites_in, sites_from, IsImageOf}
-use Rattle.ax_lower.specs.Rows.{row_of, load_row, store_row, add_row, order_of, is_frame_register, codes_from, range_of, HasRows}
+use Rattle.ax_lower.specs.FirstRows.{row_of, load_row, store_row, add_row, order_of, FirstHasRows}
+use Rattle.ax_lower.specs.Rows.{is_frame_register, codes_from, range_of}
 use Rattle.ax_lower.proofs.Parts.{HasAt, has_parts}
 use Rattle.ax_lower.proofs.Places.{place_in, begins_from, stands, has_all}
 use Rattle.ax_lower.proofs.Soundness.{piece_some}
@@ -180,7 +181,7 @@ inst_parts : (o : Option (List FirstInst)) (k : ℕ) (i : FirstInst) → inst_in
 inst_parts None k i e = absurd (let z : None ≡ Some i = e in cc)
 inst_parts (Some insts) k i e = (insts, refl, e)
 
-pub has_rows : (image : Image RvInstr) (program : First) → IsFirst program → IsImageOf image program → HasRows image program
+pub has_rows : (image : Image RvInstr) (program : First) → IsFirst program → IsImageOf image program → FirstHasRows image program
 has_rows image program first im = record { covered = covered; rows = rows }
   where
     whole : HasAt image.code (tag_at image.tags) 1 (program_code program.functions)

@@ -6,10 +6,10 @@ use Rattle.ax_store.specs.Storage.{Storage}
 use Rattle.ax_isa.specs.Processor.{Processor}
 use Rattle.ax_isa.specs.Run.{Given, Nothing, An_act, A_look, A_miss, frame_base}
 use Rattle.ax_isa.specs.Contract.{Meaning, Did}
-use Rattle.ax_source.specs.declared.first.First.{First}
-use Rattle.ax_source.specs.declared.first.FirstInst.{FirstInst}
-use Rattle.ax_source.specs.WellFormed.{IsFunction}
-use Rattle.ax_source.specs.Source.{SourceProcessor, deed, inst_at}
+use Rattle.ax_first.specs.declared.first.First.{First}
+use Rattle.ax_first.specs.declared.first.FirstInst.{FirstInst}
+use Rattle.ax_first.specs.WellFormed.{IsFunction}
+use Rattle.ax_first.specs.FirstSource.{SourceProcessor, deed, inst_at}
 use Rattle.ax_lower.specs.Layout.{address_of}
 
 abbrev pub Numbers : Type 0

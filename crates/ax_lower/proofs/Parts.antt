@@ -13,10 +13,10 @@ use Rattle.ax_isa.specs.Run.{frame_base}
 use Rattle.ax_rv.specs.declared.instructions.RvInstr.{RvInstr}
 use Rattle.ax_rv.specs.declared.instructions.RvInstr.TheVariants.{Li, Add, Ld, Sd}
 use Rattle.ax_rv.specs.Instructions.{effect_of, read, displaced}
-use Rattle.ax_source.specs.declared.first.First.{First}
-use Rattle.ax_source.specs.declared.first.FirstValue.{FirstValue}
-use Rattle.ax_source.specs.declared.first.FirstValue.TheVariants.{Const, Result}
-use Rattle.ax_source.specs.Source.{SourceProcessor, value_of}
+use Rattle.ax_first.specs.declared.first.First.{First}
+use Rattle.ax_first.specs.declared.first.FirstValue.{FirstValue}
+use Rattle.ax_first.specs.declared.first.FirstValue.TheVariants.{Const, Result}
+use Rattle.ax_first.specs.FirstSource.{SourceProcessor, value_of}
 use Rattle.ax_lower.specs.Code.{Piece, below, far_below, near_load, far_load, near_store, far_store, slot_load, slot_store, operand}
 use Rattle.ax_lower.proofs.Meaning.{slot}
 use Rattle.ax_lower.proofs.Quiet.{at_same, at_other}

@@ -20,13 +20,13 @@ use Rattle.ax_rv.specs.declared.instructions.RvInstr.TheVariants.{Li, Ld, Sd, Am
 use Rattle.ax_rv.specs.declared.instructions.FenceSets.{FenceSets}
 use Rattle.ax_rv.specs.declared.instructions.FenceSets.TheVariants.{ReadBeforeAll, AllBeforeWrite, AllBeforeAll}
 use Rattle.ax_rv.specs.Instructions.{rv_kind, effect_of, displaced}
-use Rattle.ax_source.specs.declared.first.First.{First}
-use Rattle.ax_source.specs.declared.first.FirstInst.{FirstInst}
-use Rattle.ax_source.specs.declared.first.FirstInst.TheVariants.{Load, Store, Add as Plus, Out, Ret as Return}
-use Rattle.ax_source.specs.declared.first.FirstValue.{FirstValue}
-use Rattle.ax_source.specs.declared.first.FirstValue.TheVariants.{Const, Result}
-use Rattle.ax_source.specs.WellFormed.{IsOperand, IsFunction}
-use Rattle.ax_source.specs.Source.{SourceProcessor, put_at, gets, goes_on, inst_in, inst_at, value_of}
+use Rattle.ax_first.specs.declared.first.First.{First}
+use Rattle.ax_first.specs.declared.first.FirstInst.{FirstInst}
+use Rattle.ax_first.specs.declared.first.FirstInst.TheVariants.{Load, Store, Add as Plus, Out, Ret as Return}
+use Rattle.ax_first.specs.declared.first.FirstValue.{FirstValue}
+use Rattle.ax_first.specs.declared.first.FirstValue.TheVariants.{Const, Result}
+use Rattle.ax_first.specs.WellFormed.{IsOperand, IsFunction}
+use Rattle.ax_first.specs.FirstSource.{SourceProcessor, put_at, gets, goes_on, inst_in, inst_at, value_of}
 use Rattle.ax_lower.specs.Layout.{address_of}
 use Rattle.ax_lower.specs.Code.{Piece, slot_store, near_store, far_store, operand, fence, before_load, after_load, before_store, ending_of, piece_of}
 use Rattle.ax_lower.proofs.Meaning.{Numbers, meaning_of, size_or, size_of, slot, Matched, Fitting, numbers_in}

@@ -8,8 +8,8 @@ use Rattle.ax_isa.specs.Steps.{at_code}
 use Rattle.ax_isa.specs.Run.{tag_or, tag_at}
 use Rattle.ax_rv.specs.declared.instructions.RvInstr.{RvInstr}
 use Rattle.ax_rv.specs.declared.instructions.RvInstr.TheVariants.{Li, Ld, Sd, AmoAdd, Ecall}
-use Rattle.ax_source.specs.declared.first.FirstInst.{FirstInst}
-use Rattle.ax_source.specs.declared.first.FirstInst.TheVariants.{Load, Store, Add as Plus, Out, Ret as Return}
+use Rattle.ax_first.specs.declared.first.FirstInst.{FirstInst}
+use Rattle.ax_first.specs.declared.first.FirstInst.TheVariants.{Load, Store, Add as Plus, Out, Ret as Return}
 use Rattle.ax_lower.specs.Code.{Piece, near_store, far_store, slot_store, operand, before_load, after_load, before_store, fence, ending_of, piece_of, function_code, program_code, entries_from, frames_of}
 use Rattle.ax_rv.specs.declared.instructions.FenceSets.TheVariants.{ReadBeforeAll, AllBeforeWrite, AllBeforeAll}
 use Rattle.ax_rv.specs.declared.instructions.FenceSets.{FenceSets}

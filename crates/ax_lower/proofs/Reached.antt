@@ -9,13 +9,13 @@ use Rattle.ax_ops.specs.declared.source.SourceStatus.{SourceStatus}
 use Rattle.ax_ops.specs.declared.source.SourceStatus.TheVariants.{Running as Runs, Ended as Ends, Trapped as Traps}
 use Rattle.ax_isa.specs.Run.{An_act}
 use Rattle.ax_isa.specs.Contract.{Whole, meant, meant_if, meant_run, after_did}
-use Rattle.ax_source.specs.declared.first.First.{First}
-use Rattle.ax_source.specs.declared.first.FirstInst.{FirstInst}
-use Rattle.ax_source.specs.declared.first.FirstInst.TheVariants.{Load, Store, Add as Plus, Out, Ret as Return}
-use Rattle.ax_source.specs.declared.first.FirstValue.{FirstValue}
-use Rattle.ax_source.specs.declared.first.FirstValue.TheVariants.{Const, Result}
-use Rattle.ax_source.specs.WellFormed.{IsFirst, IsFunction, IsOperand, AreEntries}
-use Rattle.ax_source.specs.Source.{SourceProcessor, SourceState, Deed, put_at, deed, gets, element_set, value_of, after, inst_in, inst_at, act_at, act_if, source_event, source_run, source_start, first_processor, first_numbers}
+use Rattle.ax_first.specs.declared.first.First.{First}
+use Rattle.ax_first.specs.declared.first.FirstInst.{FirstInst}
+use Rattle.ax_first.specs.declared.first.FirstInst.TheVariants.{Load, Store, Add as Plus, Out, Ret as Return}
+use Rattle.ax_first.specs.declared.first.FirstValue.{FirstValue}
+use Rattle.ax_first.specs.declared.first.FirstValue.TheVariants.{Const, Result}
+use Rattle.ax_first.specs.WellFormed.{IsFirst, IsFunction, IsOperand, AreEntries}
+use Rattle.ax_first.specs.FirstSource.{SourceProcessor, SourceState, Deed, put_at, deed, gets, element_set, value_of, after, inst_in, inst_at, act_at, act_if, source_event, source_run, source_start, first_processor, first_numbers}
 use Rattle.ax_lower.proofs.Meaning.{Numbers, did_at, meaning_of, Fitting}
 use Rattle.ax_lower.proofs.Quiet.{at_same, at_other}
 use Rattle.ax_lower.proofs.Pieces.{get_below}

@@ -16,8 +16,8 @@ use Rattle.ax_isa.specs.Run.{frame_base}
 use Rattle.ax_isa.specs.Contract.{ByOwn, IsOwn, MayWrite}
 use Rattle.ax_rv.specs.declared.instructions.RvInstr.{RvInstr}
 use Rattle.ax_rv.specs.Instructions.{rv_kind, effect_of}
-use Rattle.ax_source.specs.declared.first.First.{First}
-use Rattle.ax_source.specs.Source.{SourceProcessor}
+use Rattle.ax_first.specs.declared.first.First.{First}
+use Rattle.ax_first.specs.FirstSource.{SourceProcessor}
 use Rattle.ax_lower.specs.Code.{Piece}
 use Rattle.ax_lower.proofs.Meaning.{meaning_of, numbers_in}
 use Rattle.ax_lower.proofs.Straight.{Frame, Goes, Calm, silent}

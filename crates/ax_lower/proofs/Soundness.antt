@@ -12,12 +12,12 @@ use Rattle.ax_rv.specs.declared.instructions.RvInstr.TheVariants.{Li, Ld, Sd, Am
 use Rattle.ax_rv.specs.declared.instructions.FenceSets.{FenceSets}
 use Rattle.ax_rv.specs.declared.instructions.FenceSets.TheVariants.{ReadBeforeAll, AllBeforeWrite, AllBeforeAll}
 use Rattle.ax_rv.specs.Instructions.{IsInstr}
-use Rattle.ax_source.specs.declared.first.First.{First}
-use Rattle.ax_source.specs.declared.first.FirstInst.{FirstInst}
-use Rattle.ax_source.specs.declared.first.FirstInst.TheVariants.{Load, Store, Add as Plus, Out, Ret as Return}
-use Rattle.ax_source.specs.declared.first.FirstValue.{FirstValue}
-use Rattle.ax_source.specs.declared.first.FirstValue.TheVariants.{Const, Result}
-use Rattle.ax_source.specs.WellFormed.{IsFirst, IsWithinLimits, IsFunction, IsInst, IsOperand}
+use Rattle.ax_first.specs.declared.first.First.{First}
+use Rattle.ax_first.specs.declared.first.FirstInst.{FirstInst}
+use Rattle.ax_first.specs.declared.first.FirstInst.TheVariants.{Load, Store, Add as Plus, Out, Ret as Return}
+use Rattle.ax_first.specs.declared.first.FirstValue.{FirstValue}
+use Rattle.ax_first.specs.declared.first.FirstValue.TheVariants.{Const, Result}
+use Rattle.ax_first.specs.WellFormed.{IsFirst, IsWithinLimits, IsFunction, IsInst, IsOperand}
 use Rattle.ax_lower.specs.Layout.{address_of}
 use Rattle.ax_lower.specs.Code.{Piece, below, far_below, near_load, far_load, slot_load, near_store, far_store, slot_store, operand, fence, before_load, after_load, before_store, ending_of, piece_of, function_code, program_code, entries_from, frames_of, IsImageOf}
 use Rattle.ax_lower.specs.Sound.{IsSound}

@@ -9,7 +9,7 @@ use Rattle.ax_store.proofs.Calls.{put_written}
 use Rattle.ax_isa.specs.Run.{frame_base}
 use Rattle.ax_isa.specs.Steps.{is_place}
 use Rattle.ax_rv.specs.Instructions.{displaced}
-use Rattle.ax_source.specs.Source.{element_set, put_at}
+use Rattle.ax_first.specs.FirstSource.{element_set, put_at}
 use Rattle.ax_lower.specs.Layout.{address_of}
 use Rattle.ax_lower.specs.Code.{below, far_below}
 use Rattle.ax_lower.proofs.Meaning.{Numbers, numbers_in, slot}

@@ -8,13 +8,13 @@ use Rattle.ax_rv.specs.declared.instructions.Ending.{Ending}
 use Rattle.ax_rv.specs.declared.instructions.Ending.TheVariants.{Plain, Acquire, Release, AcquireRelease}
 use Rattle.ax_rv.specs.declared.instructions.FenceSets.{FenceSets}
 use Rattle.ax_rv.specs.declared.instructions.FenceSets.TheVariants.{ReadBeforeAll, AllBeforeWrite, AllBeforeAll}
-use Rattle.ax_source.specs.declared.first.FirstInst.{FirstInst}
-use Rattle.ax_source.specs.declared.first.FirstInst.TheVariants.{Load, Store, Add as Plus, Out, Ret as Return}
-use Rattle.ax_source.specs.declared.first.FirstValue.{FirstValue}
-use Rattle.ax_source.specs.declared.first.FirstValue.TheVariants.{Const, Result}
+use Rattle.ax_first.specs.declared.first.FirstInst.{FirstInst}
+use Rattle.ax_first.specs.declared.first.FirstInst.TheVariants.{Load, Store, Add as Plus, Out, Ret as Return}
+use Rattle.ax_first.specs.declared.first.FirstValue.{FirstValue}
+use Rattle.ax_first.specs.declared.first.FirstValue.TheVariants.{Const, Result}
 use Rattle.ax_isa.specs.declared.images.Image.{Image}
 use Rattle.ax_isa.specs.declared.images.SiteRange.{SiteRange}
-use Rattle.ax_source.specs.declared.first.First.{First}
+use Rattle.ax_first.specs.declared.first.First.{First}
 use Rattle.ax_lower.specs.Layout.{address_of}
 
 abbrev pub Piece : Type 0

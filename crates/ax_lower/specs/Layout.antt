@@ -1,7 +1,7 @@
 -- *Layout* of the first form: globals lie from 0x10000 on in their order, each an object of 8 bytes at a multiple of 8.
-use Rattle.std.specs.Prelude.{ℕ, ◌+◌, ◌-◌, ◌*◌, ◌/◌, ◌%◌, Bool, true, ◌&&◌, if◌then◌else◌, nat_eq, nat_le, nat_lt, List, length, slice_index_or}
+use Rattle.std.specs.Prelude.{◌≡◌, ◌<◌, ℕ, ◌+◌, ◌-◌, ◌*◌, ◌/◌, ◌%◌, Bool, true, ◌&&◌, if◌then◌else◌, nat_eq, nat_le, nat_lt, List, length, slice_index_or}
 use Rattle.ax_store.specs.Bytes.{byte_of}
-use Rattle.ax_source.specs.declared.first.First.{First}
+use Rattle.ax_first.specs.declared.first.First.{First}
 
 -- where the elements of the globals lie: whether there is element i of global g, its address and size in bytes, and whether it is native
 pub record Objects : Type 0 where
@@ -9,6 +9,11 @@ pub record Objects : Type 0 where
   pub address : ℕ → ℕ → ℕ
   pub bytes : ℕ → ℕ
   pub native : ℕ → Bool
+
+-- a global has one element
+pub record HasElement (program : First) (g i : ℕ) : Type 0 where
+  pub global : g < length program.globals
+  pub first : i ≡ 0
 
 -- 0x10000 + 8 * g
 abbrev pub address_of : ℕ → ℕ

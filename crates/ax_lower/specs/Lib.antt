@@ -1,6 +1,10 @@
 pub mod Layout
-pub mod Agree
-pub mod Lowers
+pub mod FirstAgree
+pub mod FirstLowers
 pub mod Code
 pub mod Sound
+pub mod Agree
+pub mod Lowers
 pub mod Rows
+pub mod FirstRows
+pub mod Alike

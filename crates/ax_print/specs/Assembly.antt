@@ -11,6 +11,7 @@ use Rattle.ax_rv.specs.declared.instructions.Ending.{Ending}
 use Rattle.ax_rv.specs.declared.instructions.Ending.TheVariants.{Plain, Acquire, Release, AcquireRelease}
 use Rattle.ax_rv.specs.declared.instructions.FenceSets.{FenceSets}
 use Rattle.ax_rv.specs.declared.instructions.FenceSets.TheVariants.{ReadBeforeAll, AllBeforeWrite, AllBeforeAll}
+use Rattle.ax_ir.specs.Names.{global_token}
 use Rattle.ax_print.specs.Registers.{register_name}
 
 abbrev pub ending_text : Ending → List ℕ
@@ -43,7 +44,7 @@ tag_text Silent = []
 tag_text Act = codes " # act"
 
 abbrev pub entry_line : List ℕ → ℕ → ℕ → List ℕ
-entry_line name place frame = codes "# entry @" ++ name ++ 32 ∷ decimal place ++ 32 ∷ decimal frame ++ 10 ∷ []
+entry_line name place frame = codes "# entry " ++ global_token name ++ 32 ∷ decimal place ++ 32 ∷ decimal frame ++ 10 ∷ []
 
 -- one line for each function from number f on
 abbrev pub entry_lines : List ℕ → List ℕ → ℕ → List (List ℕ) → List ℕ

@@ -1,6 +1,7 @@
 -- *Report* for RV64: what a run has put out, the objects, the processors, the locks and the events, a line each.
 use Rattle.std.specs.Prelude.{ℕ, ◌+◌, if◌then◌else◌, nat_eq, List, [], ◌∷◌, ◌++◌, length, map, codes, decimal, flat_map, slice_index}
 use Rattle.ax_ops.specs.declared.source.SourceEvent.{SourceEvent}
+use Rattle.ax_ir.specs.Names.{global_token}
 use Rattle.ax_isa.specs.declared.cpu.Status.{Status}
 use Rattle.ax_isa.specs.declared.cpu.Status.TheVariants.{Running, Ended, Trapped, Stuck}
 use Rattle.ax_isa.specs.declared.events.Event.{Event}
@@ -17,7 +18,11 @@ output_line o = codes "output " ++ decimal o.0 ++ 32 ∷ decimal o.1 ++ 10 ∷ [
 
 -- an object whose number is 0 has no line
 abbrev pub object_line : List ℕ → ℕ → ℕ → List ℕ
-object_line name i v = if nat_eq v 0 then [] else codes "object @" ++ name ++ 32 ∷ decimal i ++ 32 ∷ decimal v ++ 10 ∷ []
+object_line name i v = if nat_eq v 0 then [] else codes "object " ++ global_token name ++ 32 ∷ decimal i ++ 32 ∷ decimal v ++ 10 ∷ []
+
+-- the line of an object that a lock holds
+abbrev pub held_line : List ℕ → ℕ → List ℕ
+held_line name i = codes "object " ++ global_token name ++ 32 ∷ decimal i ++ codes " held" ++ 10 ∷ []
 
 abbrev pub status_word : Status → List ℕ
 status_word Running = codes "running"
@@ -41,23 +46,3 @@ machine_lines events = lines_of (codes "machine") (map machine_token events)
 
 abbrev pub end_line : List ℕ
 end_line = codes "end" ++ 10 ∷ []
-
--- the objects of the globals from number g on, each of one element
-abbrev pub object_lines : List ℕ → ℕ → List (List ℕ) → List ℕ
-object_lines numbers g [] = []
-object_lines numbers g (name ∷ names) = object_line name 0 (slice_index numbers g) ++ object_lines numbers (g + 1) names
-
--- the processors from number p on: status, place, retired, pending
-abbrev pub processor_lines : ℕ → List (Status × ℕ × ℕ × ℕ) → List ℕ
-processor_lines p [] = []
-processor_lines p (c ∷ processors) = processor_line p c.0 c.1 c.2 c.3 ++ processor_lines (p + 1) processors
-
--- the lock words from index i on
-abbrev pub lock_lines : ℕ → List ℕ → List ℕ
-lock_lines i [] = []
-lock_lines i (w ∷ words) = lock_line i w ++ lock_lines (i + 1) words
-
--- THE REPORT: of the names of the globals and their numbers, the processors, the outputs, the lock words, and the events of the source machine and of the machine
-abbrev pub report_text : List (List ℕ) → List ℕ → List (Status × ℕ × ℕ × ℕ) → List (ℕ × ℕ) → List ℕ → List SourceEvent → List Event → List ℕ
-report_text globals numbers processors outputs locks source machine =
-    head_lines (length processors) (length machine) ++ flat_map output_line outputs ++ object_lines numbers 0 globals ++ processor_lines 0 processors ++ lock_lines 0 locks ++ source_lines source ++ machine_lines machine ++ end_line

@@ -32,23 +32,12 @@ pub fn print(alloc: Global, l: &Lowered) -> Result<String, AllocError>
     Ok(out)
 }
 
-/// Appends a name's bytes.
-pub(crate) fn push_name(out: &mut String, name: &Name) -> Result<(), AllocError>
-    requires { All (λ b. b < 128) name.now }
-    ensures { OnOk result (string_bytes out.new ≡ string_bytes out.old ++ name.now) }
-{
-    for b in name.as_bytes() {
-        out.push(*b as char)?;
-    }
-    Ok(())
-}
-
 fn push_entry(out: &mut String, name: &Name, place: u32, frame: u64) -> Result<(), AllocError>
     requires { All (λ b. b < 128) name.now }
     ensures { OnOk result (string_bytes out.new ≡ string_bytes out.old ++ entry_line name.now place frame) }
 {
-    write!(out, "# entry @")?;
-    push_name(out, name)?;
+    write!(out, "# entry ")?;
+    name.push_to(out)?;
     writeln!(out, " {place} {frame}")
 }
 

@@ -9,8 +9,8 @@ pub mod tokens;
 
 pub use assembly::print;
 pub use report::{
-    push_end, push_head, push_lock, push_machine, push_object, push_output, push_outputs,
-    push_processor, push_source,
+    push_end, push_head, push_held, push_lock, push_machine, push_object, push_output,
+    push_outputs, push_processor, push_source,
 };
 
 #[cfg(test)]

@@ -1,9 +1,8 @@
 //! The lines of a report.
 
 ghost use Rattle.std.specs.Prelude.{◌≡◌, ◌<◌, ◌++◌, flat_map, All, OnOk, string_bytes};
-ghost use Rattle.ax_print.specs.Report.{head_lines, output_line, object_line, status_word, processor_line, lock_line, source_lines, machine_lines, end_line};
+ghost use Rattle.ax_print.specs.Report.{head_lines, output_line, object_line, held_line, status_word, processor_line, lock_line, source_lines, machine_lines, end_line};
 
-use crate::assembly::push_name;
 use crate::lines::push_events;
 use ax_isa::{Event, Status};
 use ax_lower::Name;
@@ -45,9 +44,19 @@ pub fn push_object(out: &mut String, name: &Name, i: u64, v: u128) -> Result<(),
     if v == 0 {
         return Ok(());
     }
-    write!(out, "object @")?;
-    push_name(out, name)?;
+    write!(out, "object ")?;
+    name.push_to(out)?;
     writeln!(out, " {i} {v}")
+}
+
+/// Appends the line of element `i` of a global, which a lock holds.
+pub fn push_held(out: &mut String, name: &Name, i: u64) -> Result<(), AllocError>
+    requires { All (λ b. b < 128) name.now }
+    ensures { OnOk result (string_bytes out.new ≡ string_bytes out.old ++ held_line name.now i) }
+{
+    write!(out, "object ")?;
+    name.push_to(out)?;
+    writeln!(out, " {i} held")
 }
 
 /// Appends the line of processor `p`: its status, the place of its next instruction, the steps

@@ -2,6 +2,7 @@
 
 ghost use Rattle.std.specs.Prelude.{◌≡◌, ◌<◌, ◌≤◌, ◌+◌, ◌-◌, ◌^◌, ◌==◌, ℕ, List, length, take, count_by, MatchResult, IfOk};
 ghost use Rattle.ax_ir.specs.declared.module.Module.{Module};
+ghost use Rattle.ax_ir.specs.WellFormed.{IsModule};
 ghost use Rattle.ax_lex.specs.Tokens.{AreTokens};
 ghost use Rattle.ax_lines.specs.Lines.{lines_of};
 ghost use Rattle.ax_lines.specs.Faults.{IsLineFault, FaultWithin};
@@ -86,6 +87,8 @@ pub fn read(alloc: Global, text: &[u8]) -> Result<Module, ReadFault>
     ensures found { IfOk result (λ m. Derives text.now m) }
     // What the text derives is answered, unless memory runs out.
     ensures only { (m : Module) → Derives text.now m → MatchResult result (λ r. r ≡ m) (λ e. e ≡ ReadFault.Memory) }
+    // What is answered is well formed.
+    ensures well_formed { IfOk result IsModule }
     // Which fault it is.
     ensures fault { MatchResult result (λ _. Unit {0}) (λ e. IsReadFault text.now e) }
 {

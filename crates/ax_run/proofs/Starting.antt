@@ -19,10 +19,10 @@ use Rattle.ax_isa.specs.Processor.{processor_of}
 use Rattle.ax_isa.specs.Run.{frame_base, start_processor, start_regs, tag_at, run, explain}
 use Rattle.ax_rv.specs.declared.instructions.RvInstr.{RvInstr}
 use Rattle.ax_rv.specs.Instructions.{rv_kind}
-use Rattle.ax_source.specs.declared.first.First.{First}
-use Rattle.ax_source.specs.WellFormed.{AreEntries}
+use Rattle.ax_first.specs.declared.first.First.{First}
+use Rattle.ax_first.specs.WellFormed.{AreEntries}
 use Rattle.ax_lower.specs.Layout.{end_of}
-use Rattle.ax_lower.specs.Lowers.{start_of}
+use Rattle.ax_lower.specs.FirstLowers.{start_of}
 use Rattle.ax_lower.specs.Sound.{IsSound}
 use Rattle.ax_run.specs.Machine.{MachineState, Shows, Tells, idle}
 use Rattle.ax_run.specs.Start.{bytes_of, cpus_from, first_cpu, frames_for, storage_with}

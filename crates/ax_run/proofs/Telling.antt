@@ -1,26 +1,26 @@
 -- One event more of a run and of its explanation.
-use Rattle.std.proofs.Common.{◌≡◌, ◌≢◌, ℕ, ◌+◌, ◌<◌, Bool, true, false, List, [], ◌∷◌, ◌++◌, Option, length, refl, sym, ap, ◌∙◌, subst, ⊎_elim, append-nil, arith}
+use Rattle.std.proofs.Common.{◌≡◌, ◌≢◌, ℕ, ◌+◌, ◌<◌, List, [], ◌∷◌, ◌++◌, length, refl, sym, ap, ◌∙◌, subst, append-nil, arith}
 use Rattle.std.specs.Prelude.{slice_index_or, slice_set, nat_eq, if◌then◌else◌}
 use Rattle.std.proofs.lemmas.Bool.Decides.{nat_tests}
 use Rattle.std.proofs.lemmas.Grind.{common_steps}
 use Rattle.ax_ops.specs.declared.source.SourceEvent.{SourceEvent}
-use Rattle.ax_store.specs.Storage.{Storage, at_place}
+use Rattle.ax_store.specs.declared.entry.Entry.{Entry}
+use Rattle.ax_store.specs.Storage.{at_place, drain_one, drained, dropped}
 use Rattle.ax_store.specs.Store.{storage_of}
-use Rattle.ax_isa.specs.declared.cpu.Cpu.{Cpu}
 use Rattle.ax_isa.specs.declared.cpu.Status.{Status}
 use Rattle.ax_isa.specs.declared.cpu.Status.TheVariants.{Running, Ended, Trapped, Stuck}
 use Rattle.ax_isa.specs.declared.effects.Outcome.{Outcome}
 use Rattle.ax_isa.specs.declared.events.Event.{Event}
-use Rattle.ax_isa.specs.declared.events.Event.TheVariants.{Step}
+use Rattle.ax_isa.specs.declared.events.Event.TheVariants.{Step, Drain, Drop}
 use Rattle.ax_isa.specs.declared.tags.Tag.{Tag}
 use Rattle.ax_isa.specs.declared.tags.Tag.TheVariants.{Silent, Act}
 use Rattle.ax_isa.specs.Processor.{Processor}
 use Rattle.ax_isa.specs.Effects.{noted}
-use Rattle.ax_isa.specs.Steps.{Done, Noted, step}
-use Rattle.ax_isa.specs.Run.{Machine, outputs_of, tag_at, given_of, events_of, gives, done, after_step, step_if, events_if, happens, explained, run, explain}
+use Rattle.ax_isa.specs.Steps.{Done, Noted, step, drain, drain_first, drop_link}
+use Rattle.ax_isa.specs.Run.{Machine, outputs_of, tag_at, given_of, events_of, done, after_step, step_if, with_noted, events_if, happens, explained, run, explain}
 use Rattle.ax_rv.specs.declared.instructions.RvInstr.{RvInstr}
 use Rattle.ax_rv.specs.Instructions.{rv_kind}
-use Rattle.ax_run.specs.Machine.{MachineState, Shows, Tells, GoesOn, Advanced, acts_of, cpu_in, processor_in, retired_in, stepped, passed, counted}
+use Rattle.ax_run.specs.Machine.{MachineState, Shows, Tells, Advanced, acts_of, cpu_in, processor_in, retired_in, stepped, stored, passed, counted}
 
 module _ (code : List RvInstr) where
   run_more : (es : List Event) (e : Event) (m : Machine) → run rv_kind code (es ++ e ∷ []) m ≡ happens rv_kind code e (run rv_kind code es m)
@@ -81,19 +81,48 @@ module _ (start : Machine) (old : MachineState) (p : ℕ) (known : p < length ol
       ∙ ap (λ st. step rv_kind code p (now.processors p) (noted st now.noted.lost)) shown.storage
 
   module _ (new : MachineState) where
-    pub pass_tells : (cpu_in old p).status ≢ Running → new ≡ passed p old → Tells start new
+    pub pass_tells : (cpu_in old p).status ≢ Running → new ≡ passed (Step p) old → Tells start new
     pass_tells other e =
         subst (Tells start) (sym e)
         (record {
           sources = told.sources ∙ sym (append-nil _) ∙ ap (λ l. explain rv_kind code tags old.events start ++ l) (silent code tags _ p now rest) ∙ sym (explain_more code tags old.events (Step p) start);
-          shows = subst (Shows (passed p old)) (rests code _ p now rest ∙ sym (run_more code old.events (Step p) start)) shows;
+          shows = subst (Shows (passed (Step p) old)) (rests code _ p now rest ∙ sym (run_more code old.events (Step p) start)) shows;
         })
       where
         rest : (now.processors p).status ≢ Running
         rest h = other (ap (λ (c : Processor). c.status) (shown.processors p known) ∙ h)
 
-        shows : Shows (passed p old) now
+        shows : Shows (passed (Step p) old) now
         shows = record { processors = shown.processors; storage = shown.storage; outputs = shown.outputs; retired = shown.retired }
+
+    module _ (mid : MachineState) where
+      drain_same : (es : List Entry) → drain_one p es now.noted.storage ≡ (drain_first p es now.noted).storage
+      drain_same [] = refl
+      drain_same (e ∷ es) = refl
+
+      drained_is : drained p (storage_of old.store) ≡ (drain p now.noted).storage
+      drained_is = ap (drained p) shown.storage ∙ drain_same (now.noted.storage.waiting p)
+
+      -- a change of the storage alone
+      module _ (e : Event) (n : Noted) (quiet : [] ≡ explained rv_kind old.image.code (tag_at old.image.tags) e now) (effect : with_noted n now ≡ happens rv_kind old.image.code e now) (same : storage_of mid.store ≡ n.storage) (rest : mid ≡ stored mid.store old) where
+        quietly : Tells start (passed e (stored mid.store old))
+        quietly =
+            record {
+              sources = told.sources ∙ sym (append-nil _) ∙ ap (λ l. explain rv_kind code tags old.events start ++ l) quiet ∙ sym (explain_more code tags old.events e start);
+              shows = subst (Shows (passed e (stored mid.store old))) (effect ∙ sym (run_more code old.events e start)) shows;
+            }
+          where
+            shows : Shows (passed e (stored mid.store old)) (with_noted n now)
+            shows = record { processors = shown.processors; storage = same; outputs = shown.outputs; retired = shown.retired }
+
+        pub change_tells : new ≡ passed e mid → Tells start new
+        change_tells g = subst (Tells start) (ap (passed e) (sym rest) ∙ sym g) quietly
+
+      pub drain_tells : storage_of mid.store ≡ drained p (storage_of old.store) → mid ≡ stored mid.store old → new ≡ passed (Drain p) mid → Tells start new
+      drain_tells same rest g = change_tells (Drain p) (drain p now.noted) refl refl (same ∙ drained_is) rest g
+
+      pub drop_tells : storage_of mid.store ≡ dropped p (storage_of old.store) → mid ≡ stored mid.store old → new ≡ passed (Drop p) mid → Tells start new
+      drop_tells same rest g = change_tells (Drop p) (drop_link p now.noted) refl refl (same ∙ ap (dropped p) shown.storage) rest g
 
     module _ (mid : MachineState) (outcome : Outcome) (tag : Tag) (cells : p < length old.retired) (adv : Advanced p old mid outcome) where
       abbrev after : MachineState

@@ -8,6 +8,8 @@ use Rattle.ax_store.specs.Store.{storage_of}
 use Rattle.ax_isa.specs.declared.cpu.Cpu.{Cpu}
 use Rattle.ax_isa.specs.declared.cpu.Status.TheVariants.{Ended}
 use Rattle.ax_isa.specs.declared.effects.Outcome.{Outcome}
+use Rattle.ax_store.specs.StoreState.{StoreState}
+use Rattle.ax_isa.specs.declared.events.Event.{Event}
 use Rattle.ax_isa.specs.declared.events.Event.TheVariants.{Step}
 use Rattle.ax_isa.specs.declared.tags.Tag.{Tag}
 use Rattle.ax_isa.specs.declared.tags.Tag.TheVariants.{Silent, Act as Acts}
@@ -67,9 +69,13 @@ abbrev pub acts_of : ℕ → Tag → List SourceEvent
 acts_of p Silent = []
 acts_of p Acts = Act p ∷ []
 
--- a Step of a processor that isn't running is written down
-abbrev pub passed : ℕ → MachineState → MachineState
-passed p r = record r { events = r.events ++ Step p ∷ []; room = r.room - 1 }
+-- with this storage
+abbrev pub stored : StoreState → MachineState → MachineState
+stored s r = record r { store = s }
+
+-- an event that changes no processor, as a Step of one that isn't running, is written down
+abbrev pub passed : Event → MachineState → MachineState
+passed e r = record r { events = r.events ++ e ∷ []; room = r.room - 1 }
 
 -- a Step with its tag and output is
 abbrev pub counted : ℕ → Tag → Option ℕ → MachineState → MachineState

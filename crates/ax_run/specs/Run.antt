@@ -1,23 +1,17 @@
 -- *The run is the printed code's run*: what a run tells of the machine run of its image over the events of its plan.
 pub use Rattle.ax_run.specs.RunState.{RunState}
-use Rattle.std.specs.Prelude.{◌≡◌, ℕ, ◌≤◌, Bool, true, false, List, [], length, map}
+use Rattle.std.specs.Prelude.{◌≡◌, ◌≤◌, Bool, true, false, List, [], length}
 use Rattle.std.specs.List.{sum_by}
 use Rattle.ax_isa.specs.declared.events.Event.{Event}
-use Rattle.ax_isa.specs.declared.events.Event.TheVariants.{Step}
 use Rattle.ax_isa.specs.declared.images.Image.{Image}
 use Rattle.ax_isa.specs.Run.{Machine}
 use Rattle.ax_rv.specs.declared.instructions.RvInstr.{RvInstr}
-use Rattle.ax_source.specs.declared.first.First.{First}
+use Rattle.ax_first.specs.declared.first.First.{First}
 use Rattle.ax_sched.specs.declared.plan.Plan.{Plan}
-use Rattle.ax_sched.specs.Events.{steps_of}
+use Rattle.ax_sched.specs.Events.{events_of}
 use Rattle.ax_sched.specs.Plan.{IsPlan, times_of}
-use Rattle.ax_lower.specs.Lowers.{start_of, run_of, explained_by}
-use Rattle.ax_run.specs.MachineState.{MachineState}
+use Rattle.ax_lower.specs.FirstLowers.{start_of, run_of, explained_by}
 use Rattle.ax_run.specs.Machine.{Shows, Tells}
-
--- *Events of a plan*
-abbrev pub events_of : Plan → List Event
-events_of plan = map Step (steps_of plan.items)
 
 -- the run of an image of a program over a plan
 pub record IsOf (image : Image RvInstr) (program : First) (plan : Plan) (r : RunState) : Type 0 where
@@ -25,11 +19,11 @@ pub record IsOf (image : Image RvInstr) (program : First) (plan : Plan) (r : Run
   pub program_is : r.program ≡ program
   pub plan_is : r.plan ≡ plan
 
--- WHAT AN ENDED RUN TELLS: the events, the source events that explain them, and the state after them
+-- WHAT AN ENDED RUN TELLS, on a machine without buffers: the events, the source events that explain them, and the state after them
 pub record HasRun (r : RunState) : Type 0 where
-  pub machine_schedule : r.machine.events ≡ events_of r.plan
-  pub source_schedule : r.machine.sources ≡ explained_by r.machine.image r.program r.plan.entries (events_of r.plan)
-  pub shows : Shows r.machine (run_of r.machine.image r.program r.plan.entries (events_of r.plan))
+  pub machine_schedule : r.machine.events ≡ events_of false r.plan
+  pub source_schedule : r.machine.sources ≡ explained_by r.machine.image r.program r.plan.entries (events_of false r.plan)
+  pub shows : Shows r.machine (run_of r.machine.image r.program r.plan.entries (events_of false r.plan))
 
 -- a reader's answer is that of each state which the run shows
 abbrev pub Reads : {A : Type 0} → RunState → (Machine → A) → A → Type 0
@@ -38,7 +32,7 @@ Reads r read answer = (m : Machine) → Shows r.machine m → answer ≡ read m
 -- the events so far: none, or all
 abbrev pub so_far : Bool → Plan → List Event
 so_far false plan = []
-so_far true plan = events_of plan
+so_far true plan = events_of false plan
 
 -- what every run keeps
 pub record IsSoundRun (r : RunState) : Type 0 where

@@ -1,6 +1,6 @@
 -- What contracts see of a run.
 use Rattle.std.specs.Prelude.{Bool}
-use Rattle.ax_source.specs.declared.first.First.{First}
+use Rattle.ax_first.specs.declared.first.First.{First}
 use Rattle.ax_sched.specs.declared.plan.Plan.{Plan}
 use Rattle.ax_run.specs.MachineState.{MachineState}
 

@@ -6,11 +6,11 @@ pub mod run;
 mod start;
 mod steps;
 
+pub use ax_first::First;
 pub use ax_isa::{Event, Image, Status};
 pub use ax_lower::Lowered;
 pub use ax_ops::SourceEvent;
 pub use ax_sched::Plan;
-pub use ax_source::First;
 pub use run::{Run, prepare};
 
 #[cfg(test)]

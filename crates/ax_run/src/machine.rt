@@ -1,18 +1,20 @@
 //! The machine of a run: processors, storage, and what is written down of its events.
 
-ghost use Rattle.std.specs.Prelude.{◌↔◌, ◌≡◌, ◌<◌, ◌≤◌, ◌+◌, ◌++◌, ◌∷◌, [], All, IsTrue, length, map, replicate};
+ghost use Rattle.std.specs.Prelude.{◌↔◌, ◌≡◌, ◌<◌, ◌≤◌, ◌+◌, ◌++◌, ◌∷◌, [], All, IsTrue, false, flat_map, length};
 ghost use Rattle.std.specs.List.{sum_by};
-ghost use Rattle.ax_isa.specs.declared.events.Event.TheVariants.{Step as Steps};
+ghost use Rattle.ax_store.specs.Storage.{drained, dropped};
+ghost use Rattle.ax_store.specs.Store.{storage_of};
+ghost use Rattle.ax_isa.specs.declared.events.Event.TheVariants.{Step as Steps, Drain as Drains, Drop as Drops};
 ghost use Rattle.ax_isa.specs.Run.{tag_at};
-ghost use Rattle.ax_sched.specs.Events.{steps_of};
-ghost use Rattle.ax_sched.specs.Plan.{processor_of as named_by, times_of};
-ghost use Rattle.ax_run.specs.Machine.{Advanced, GoesOn, IsReady, Kept, counted, cpu_in, passed, retired_in};
+ghost use Rattle.ax_sched.specs.Events.{event_processor, item_events};
+ghost use Rattle.ax_sched.specs.Plan.{IsWithin, times_of};
+ghost use Rattle.ax_run.specs.Machine.{Advanced, GoesOn, IsReady, Kept, counted, cpu_in, passed, retired_in, stored};
 
 use crate::steps::{at_place, step};
 use ax_isa::{Cpu, Event, Image, Outcome, Status, Tag};
 use ax_ops::SourceEvent;
 use ax_rv::RvInstr;
-use ax_sched::Item;
+use ax_sched::{Item, event_at};
 use ax_store::Store;
 use std::marker::Model;
 
@@ -54,6 +56,14 @@ impl<'a> Machine<'a> {
         self.retired[p as usize]
     }
 
+    /// How many processors there are, 1 to 8.
+    fn processors(&self) -> u8
+        ensures count { result ≡ length self.now.processors }
+        ensures some { 1 ≤ result }
+    {
+        self.cpus.len() as u8
+    }
+
     fn is_running(&self, p: u8) -> bool
         requires { p < length self.now.processors }
         ensures { IsTrue result ↔ ((cpu_in self.now p).status ≡ Status.Running) }
@@ -83,13 +93,31 @@ impl<'a> Machine<'a> {
         step(image.code.as_slice(), p, c, &mut self.store)
     }
 
-    /// Writes down a step that changed nothing.
-    fn pass(&mut self, p: u8)
+    /// Writes down an event that changed no processor.
+    fn pass(&mut self, e: Event)
         requires { 1 ≤ self.old.room }
-        ensures { self.new ≡ passed p self.old }
+        ensures { self.new ≡ passed e self.old }
     {
-        self.events.push_reserved(Event::Step(p));
+        self.events.push_reserved(e);
         self.room -= 1;
+    }
+
+    /// A Drain of the storage.
+    fn store_drain(&mut self, p: u8)
+        requires { p < length self.old.processors }
+        ensures storage { storage_of self.new.store ≡ drained p (storage_of self.old.store) }
+        ensures rest { self.new ≡ stored self.new.store self.old }
+    {
+        let _ = self.store.drain(p);
+    }
+
+    /// A Drop of the storage.
+    fn store_drop(&mut self, p: u8)
+        requires { p < length self.old.processors }
+        ensures storage { storage_of self.new.store ≡ dropped p (storage_of self.old.store) }
+        ensures rest { self.new ≡ stored self.new.store self.old }
+    {
+        self.store.drop_reservation(p);
     }
 
     /// Writes down a step of a running processor.
@@ -123,35 +151,76 @@ impl<'a> Machine<'a> {
             let outcome = self.advance(p);
             self.count(p, tag, outcome.output);
         } else {
-            self.pass(p);
+            self.pass(Event::Step(p));
         }
     }
 
-    /// So many Steps of processor p.
-    fn repeat(&mut self, p: u8, n: u64)
-        requires room { n ≤ self.old.room }
+    /// One event: a Drain of processor p, in constant time and without taking memory.
+    fn drain(&mut self, p: u8)
+        requires room { 1 ≤ self.old.room }
         requires processor { p < length self.old.processors }
         ensures tells { GoesOn self.old self.new }
-        ensures events { self.new.events ≡ self.old.events ++ map Steps (replicate n p) }
-        ensures room { self.new.room + n ≡ self.old.room }
+        ensures events { self.new.events ≡ self.old.events ++ Drains p ∷ [] }
+        ensures room { self.new.room + 1 ≡ self.old.room }
         ensures kept { Kept self.old self.new }
     {
-        for _i in 0..n {
-            self.step(p);
+        self.store_drain(p);
+        self.pass(Event::Drain(p));
+    }
+
+    /// One event: a Drop of processor p, in constant time and without taking memory.
+    fn drop_link(&mut self, p: u8)
+        requires room { 1 ≤ self.old.room }
+        requires processor { p < length self.old.processors }
+        ensures tells { GoesOn self.old self.new }
+        ensures events { self.new.events ≡ self.old.events ++ Drops p ∷ [] }
+        ensures room { self.new.room + 1 ≡ self.old.room }
+        ensures kept { Kept self.old self.new }
+    {
+        self.store_drop(p);
+        self.pass(Event::Drop(p));
+    }
+
+    fn happen(&mut self, e: Event)
+        requires room { 1 ≤ self.old.room }
+        requires processor { event_processor e < length self.old.processors }
+        ensures tells { GoesOn self.old self.new }
+        ensures events { self.new.events ≡ self.old.events ++ e ∷ [] }
+        ensures room { self.new.room + 1 ≡ self.old.room }
+        ensures kept { Kept self.old self.new }
+    {
+        match e {
+            Event::Step(p) => self.step(p),
+            Event::Drain(p) => self.drain(p),
+            Event::Drop(p) => self.drop_link(p),
+        }
+    }
+
+    /// The events of a directive.
+    fn repeat(&mut self, item: Item)
+        requires room { times_of item ≤ self.old.room }
+        requires processor { IsWithin (length self.old.processors) item }
+        ensures tells { GoesOn self.old self.new }
+        ensures events { self.new.events ≡ self.old.events ++ item_events false (length self.old.processors) item }
+        ensures room { self.new.room + times_of item ≡ self.old.room }
+        ensures kept { Kept self.old self.new }
+    {
+        let processors = self.processors();
+        for k in 0..item.times() {
+            self.happen(event_at(item, processors, false, k));
         }
     }
 
     /// The events of directives.
     pub(crate) fn perform(&mut self, items: &[Item])
         requires room { sum_by times_of items.now ≤ self.old.room }
-        requires processors { All (λ i. named_by i < length self.old.processors) items.now }
+        requires processors { All (IsWithin (length self.old.processors)) items.now }
         ensures tells { GoesOn self.old self.new }
-        ensures events { self.new.events ≡ self.old.events ++ map Steps (steps_of items.now) }
+        ensures events { self.new.events ≡ self.old.events ++ flat_map (item_events false (length self.old.processors)) items.now }
         ensures kept { Kept self.old self.new }
     {
         for item in items {
-            let Item::Step { p, n } = *item;
-            self.repeat(p, n);
+            self.repeat(*item);
         }
     }
 }

@@ -3,8 +3,8 @@
 ghost use Rattle.std.specs.Prelude.{◌≡◌, ◌<◌, ◌≤◌, ◌+◌, ◌*◌, IfOk, Some, false, length, true};
 ghost use Rattle.std.specs.List.{sum_by};
 ghost use Rattle.ax_store.specs.Bytes.{number_at};
-ghost use Rattle.ax_source.specs.Machine.{HasElement};
-ghost use Rattle.ax_source.specs.WellFormed.{IsFirst, IsWithinLimits};
+ghost use Rattle.ax_lower.specs.Layout.{HasElement};
+ghost use Rattle.ax_first.specs.WellFormed.{IsFirst, IsWithinLimits};
 ghost use Rattle.ax_sched.specs.Plan.{IsPlan, times_of};
 ghost use Rattle.ax_lower.specs.Layout.{address_of};
 ghost use Rattle.ax_lower.specs.Sound.{IsSound};
@@ -12,11 +12,11 @@ ghost use Rattle.ax_run.specs.Run.{HasRun, IsOf, Reads};
 
 use crate::machine::Machine;
 use crate::start::start;
+use ax_first::First;
 use ax_isa::{Event, Status};
 use ax_lower::Lowered;
 use ax_ops::SourceEvent;
 use ax_sched::{Item, Plan};
-use ax_source::First;
 use std::alloc::{AllocError, Global};
 use std::marker::Model;
 
@@ -47,12 +47,7 @@ fn total(items: &[Item]) -> u64
     requires { sum_by times_of items.now ≤ 1000000 }
     ensures { result ≡ sum_by times_of items.now }
 {
-    items
-        .iter()
-        .map(|item| match *item {
-            Item::Step { n, .. } => n,
-        })
-        .sum()
+    items.iter().map(|item| item.times()).sum()
 }
 
 /// A run of a lowered program before its first event. It takes all memory of the run, and fails

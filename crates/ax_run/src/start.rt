@@ -3,16 +3,16 @@
 ghost use Rattle.std.specs.Prelude.{◌≡◌, ◌<◌, ◌≤◌, ◌+◌, ◌*◌, ◌/◌, All, IfOk, [], false, length};
 ghost use Rattle.ax_store.specs.Regions.{IsFrameSize, IsProcessorCount};
 ghost use Rattle.ax_store.specs.Store.{processors, storage_of};
-ghost use Rattle.ax_source.specs.WellFormed.{AreEntries, IsFirst, IsWithinLimits};
-ghost use Rattle.ax_lower.specs.Lowers.{start_of};
+ghost use Rattle.ax_first.specs.WellFormed.{AreEntries, IsFirst, IsWithinLimits};
+ghost use Rattle.ax_lower.specs.FirstLowers.{start_of};
 ghost use Rattle.ax_lower.specs.Sound.{IsSound};
 ghost use Rattle.ax_run.specs.Machine.{Tells};
 ghost use Rattle.ax_run.specs.Start.{cpus_from, first_cpu, frames_for, storage_with};
 
 use crate::machine::Machine;
+use ax_first::First;
 use ax_isa::{Cpu, Image, Status};
 use ax_rv::RvInstr;
-use ax_source::First;
 use ax_store::Store;
 use std::alloc::{AllocError, Global};
 

@@ -1,12 +1,12 @@
 // Two additions, run to its end and beyond.
 ghost use Rattle.std.specs.Prelude.{◌≡◌, IfOk, length};
-ghost use Rattle.ax_source.specs.WellFormed.{IsFirst, IsWithinLimits};
+ghost use Rattle.ax_first.specs.WellFormed.{IsFirst, IsWithinLimits};
 
 use super::*;
+use ax_first::{FirstInst, FirstValue};
 use ax_lower::lower;
 use ax_ops::Items;
 use ax_sched::Item;
-use ax_source::{FirstInst, FirstValue};
 use std::alloc::{AllocError, Global};
 use std::test::Fail;
 

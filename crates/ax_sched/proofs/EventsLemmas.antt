@@ -1,30 +1,109 @@
--- The events that directives make.
-use Rattle.std.proofs.Common.{◌≡◌, ℕ, ◌+◌, List, [], ◌∷◌, ◌++◌, length, sum_by, All, ap₂, refl, ◌∙◌, sym, length-append}
-use Rattle.std.proofs.lemmas.List.{length-replicate}
-use Rattle.std.proofs.lemmas.List.Concat.{flat_map-append}
+-- The events that directives make, one by one.
+use Rattle.std.proofs.Common.{◌≡◌, ℕ, zero, suc, ◌+◌, ◌*◌, ◌/◌, ◌%◌, ◌<◌, ◌≤◌, arith, Bool, true, false, List, [], ◌∷◌, ◌++◌, length, get_or, take, sum_by, refl, sym, ap, ap₂, ◌∙◌, if◌then◌else◌, zero-add, length-append, length-take}
+use Rattle.std.specs.Prelude.{◌==◌, slice_index_or}
+use Rattle.std.specs.List.{flat_map, range_with_len}
+use Rattle.std.proofs.lemmas.List.{length-replicate, take_all, take_more}
+use Rattle.std.proofs.lemmas.List.Concat.{get_or-flat_map}
+use Rattle.std.proofs.lemmas.List.FromFn.{length-range_with_len, get_or-range_with_len, length-map-range_with_len, get_or-map-range_with_len}
 use Rattle.std.proofs.lemmas.List.Sums.{sum_by-cons}
-use Rattle.std.proofs.lemmas.List.Elements.{All-nil, All-head, All-tail, All-append, All-replicate}
+use Rattle.ax_isa.specs.declared.events.Event.{Event}
+use Rattle.ax_isa.specs.declared.events.Event.TheVariants as event
 use Rattle.ax_sched.specs.declared.plan.Item.{Item}
-use Rattle.ax_sched.specs.declared.plan.Item.TheVariants.{Step}
-use Rattle.ax_sched.specs.Plan.{processor_of, times_of}
-use Rattle.ax_sched.specs.Events.{item_steps, steps_of}
+use Rattle.ax_sched.specs.declared.plan.Item.TheVariants.{Step, Drain, Drop, Round}
+use Rattle.ax_sched.specs.Plan.{times_of}
+use Rattle.ax_sched.specs.Events.{turn, cycle, item_events, cycle_event}
 
-length-item_steps : (i : Item) → length (item_steps i) ≡ times_of i
-length-item_steps (Step p n) = length-replicate n p
+-- ---- a cycle
 
-pub length-steps_of : (items : List Item) → length (steps_of items) ≡ sum_by times_of items
-length-steps_of [] = refl
-length-steps_of (i ∷ items) =
-    length-append (item_steps i) (steps_of items) ∙ ap₂ ◌+◌ (length-item_steps i) (length-steps_of items) ∙ sym (sum_by-cons times_of i items)
+-- how many events a turn has
+abbrev width : Bool → ℕ
+width buffered = if buffered then 3 else 1
 
-pub steps_of-append : (items more : List Item) → steps_of (items ++ more) ≡ steps_of items ++ steps_of more
-steps_of-append items more = flat_map-append item_steps items more
+turns_len : (buffered : Bool) (ps : List ℕ) → length (flat_map (turn buffered) ps) ≡ width buffered * length ps
+turns_len true [] = refl
+turns_len false [] = refl
+turns_len true (p ∷ ps) = omega (arith, turns_len true ps)
+turns_len false (p ∷ ps) = omega (arith, turns_len false ps)
 
-All-item_steps : (P : ℕ → Type 0) (i : Item) → P (processor_of i) → All P (item_steps i)
-All-item_steps P (Step p n) h = All-replicate P n p h
+cycle_len : (buffered : Bool) (processors : ℕ) → length (cycle buffered processors) ≡ width buffered * processors
+cycle_len buffered processors = turns_len buffered (range_with_len 0 processors) ∙ ap (λ n. width buffered * n) (length-range_with_len 0 processors)
 
--- what holds of the processor of each directive holds of that of each Step
-pub All-steps_of : (P : ℕ → Type 0) (items : List Item) → All (λ i. P (processor_of i)) items → All P (steps_of items)
-All-steps_of P [] h = All-nil P
-All-steps_of P (i ∷ items) h =
-    All-append P (item_steps i) (steps_of items) (All-item_steps P i (All-head (λ (x : Item). P (processor_of x)) i items h)) (All-steps_of P items (All-tail (λ (x : Item). P (processor_of x)) i items h))
+-- event j of the turn of processor p
+turn_at : (p j : ℕ) (d : Event) → j < 3 → get_or (turn true p) j d ≡ (if j == 0 then event.Step p else event.Drain p)
+turn_at p zero d h = refl
+turn_at p (suc zero) d h = refl
+turn_at p (suc (suc zero)) d h = refl
+turn_at p (suc (suc (suc j))) d h = absurd (omega arith)
+
+one_at : (p j : ℕ) (d : Event) → j < 1 → get_or (turn false p) j d ≡ event.Step p
+one_at p zero d h = refl
+one_at p (suc j) d h = absurd (omega arith)
+
+-- the events before the turn of processor q
+turns_before : (buffered : Bool) (processors q : ℕ) → q < processors → length (flat_map (turn buffered) (take q (range_with_len 0 processors))) ≡ width buffered * q
+turns_before buffered processors q h =
+    let n : length (take q (range_with_len 0 processors)) ≡ q = omega (arith, length-take q (range_with_len 0 processors), length-range_with_len 0 processors) in
+    turns_len buffered (take q (range_with_len 0 processors)) ∙ ap (λ k. width buffered * k) n
+
+processor_at : (processors q : ℕ) → q < processors → get_or (range_with_len 0 processors) q 0 ≡ q
+processor_at processors q h = get_or-range_with_len 0 processors q 0 h ∙ zero-add q
+
+buffered_at : (processors q j i : ℕ) (d : Event) → q < processors → j < 3 → i ≡ 3 * q + j → get_or (cycle true processors) i d ≡ (if j == 0 then event.Step q else event.Drain q)
+buffered_at processors q j i d h g e =
+    let ps : List ℕ = range_with_len 0 processors in
+    let known : q < length ps = omega (arith, length-range_with_len 0 processors) in
+    let at : length (flat_map (turn true) (take q ps)) + j ≡ i = omega (arith, turns_before true processors q h) in
+    ap (λ k. get_or (cycle true processors) k d) (sym at)
+    ∙ get_or-flat_map (turn true) ps q j 0 d known g
+    ∙ ap (λ p. get_or (turn true p) j d) (processor_at processors q h)
+    ∙ turn_at q j d g
+
+plain_at : (processors q : ℕ) (d : Event) → q < processors → get_or (cycle false processors) q d ≡ event.Step q
+plain_at processors q d h =
+    let ps : List ℕ = range_with_len 0 processors in
+    let known : q < length ps = omega (arith, length-range_with_len 0 processors) in
+    let at : length (flat_map (turn false) (take q ps)) + 0 ≡ q = omega (arith, turns_before false processors q h) in
+    ap (λ k. get_or (cycle false processors) k d) (sym at)
+    ∙ get_or-flat_map (turn false) ps q 0 0 d known (omega arith)
+    ∙ ap (λ p. get_or (turn false p) 0 d) (processor_at processors q h)
+
+pub round_at : (buffered : Bool) (processors n k : ℕ) → 1 ≤ processors → k < n → slice_index_or (item_events buffered processors (Round n)) k (event.Step 0) ≡ cycle_event buffered processors k
+round_at true processors n k some h =
+    let i : ℕ = k % (3 * processors) in
+    let wide : 0 < 3 * processors = omega arith in
+    let small : i < 3 * processors = omega arith in
+    let q : i / 3 < processors = omega arith in
+    get_or-map-range_with_len (λ x. slice_index_or (cycle true processors) (x % length (cycle true processors)) (event.Step 0)) 0 n k k (event.Step 0) h (zero-add k)
+    ∙ ap (λ w. slice_index_or (cycle true processors) (k % w) (event.Step 0)) (cycle_len true processors)
+    ∙ buffered_at processors (i / 3) (i % 3) i (event.Step 0) q (omega arith) (omega arith)
+round_at false processors n k some h =
+    let one : 1 * processors ≡ processors = omega arith in
+    let small : k % processors < processors = omega arith in
+    get_or-map-range_with_len (λ x. slice_index_or (cycle false processors) (x % length (cycle false processors)) (event.Step 0)) 0 n k k (event.Step 0) h (zero-add k)
+    ∙ ap (λ w. slice_index_or (cycle false processors) (k % w) (event.Step 0)) (cycle_len false processors ∙ one)
+    ∙ plain_at processors (k % processors) (event.Step 0) small
+
+-- ---- how many there are
+
+pub length-item_events : (buffered : Bool) (processors : ℕ) (i : Item) → length (item_events buffered processors i) ≡ times_of i
+length-item_events buffered processors (Step p n) = length-replicate n (event.Step p)
+length-item_events buffered processors (Drain p n) = length-replicate n (event.Drain p)
+length-item_events buffered processors (Drop p n) = length-replicate n (event.Drop p)
+length-item_events buffered processors (Round n) = length-map-range_with_len (λ k. slice_index_or (cycle buffered processors) (k % length (cycle buffered processors)) (event.Step 0)) 0 n
+
+pub length-events : (buffered : Bool) (processors : ℕ) (items : List Item) → length (flat_map (item_events buffered processors) items) ≡ sum_by times_of items
+length-events buffered processors [] = refl
+length-events buffered processors (i ∷ items) =
+    length-append (item_events buffered processors i) (flat_map (item_events buffered processors) items)
+    ∙ ap₂ ◌+◌ (length-item_events buffered processors i) (length-events buffered processors items)
+    ∙ sym (sum_by-cons times_of i items)
+
+-- ---- from event to event
+
+pub events_more : (buffered : Bool) (processors : ℕ) (i : Item) (k : ℕ) (e : Event) → k < times_of i → e ≡ slice_index_or (item_events buffered processors i) k (event.Step 0) → take (k + 1) (item_events buffered processors i) ≡ take k (item_events buffered processors i) ++ e ∷ []
+events_more buffered processors i k e h same =
+    take_more (item_events buffered processors i) k (event.Step 0) (omega (arith, length-item_events buffered processors i))
+    ∙ ap (λ x. take k (item_events buffered processors i) ++ x ∷ []) (sym same)
+
+pub events_all : (buffered : Bool) (processors : ℕ) (i : Item) (k : ℕ) → k ≡ times_of i → take k (item_events buffered processors i) ≡ item_events buffered processors i
+events_all buffered processors i k h = take_all k (item_events buffered processors i) (omega (arith, length-item_events buffered processors i))

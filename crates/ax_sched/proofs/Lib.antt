@@ -1,4 +1,8 @@
 pub mod NumberLemmas
-pub mod LineLemmas
+pub mod WordLemmas
+pub mod NameLemmas
+pub mod FirstLemmas
+pub mod DirectiveLemmas
 pub mod ExactLemmas
+pub mod AnswerLemmas
 pub mod EventsLemmas

@@ -7,7 +7,7 @@ use Rattle.std.proofs.lemmas.Bool.{cases_Bool, and_parts, and_from, eq-eqb, eqb-
 use Rattle.std.proofs.lemmas.Option.{same_Some}
 use Rattle.std.proofs.lemmas.Fmt.{decimal_digit, decimal_nonempty, first_decimal, digits_decimal, digits_value-decimal, decimal-digits_value}
 use Rattle.std.proofs.lemmas.Str.Parse.{IsNumeralModel, numerals_by_fold}
-use Rattle.ax_sched.specs.First.{is_digit}
+use Rattle.ax_lex.specs.Bytes.{is_digit}
 use Rattle.ax_sched.specs.Reading.{number_from, number_of}
 
 abbrev value_from : ℕ → List ℕ → ℕ

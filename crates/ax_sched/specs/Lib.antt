@@ -1,4 +1,5 @@
 pub mod Plan
 pub mod Events
-pub mod First
+pub mod Lines
+pub mod Schedule
 pub mod Reading

@@ -1,35 +1,84 @@
 -- What the reader's own functions give; no public clause names them.
-use Rattle.std.specs.Prelude.{◌≡◌, ℕ, ◌+◌, ◌*◌, ◌-◌, ◌^◌, ◌&&◌, ◌==◌, nat_eq, nat_le, nat_lt, if◌then◌else◌, List, [], ◌∷◌, ◌++◌, length, take, codes, slice_index, Option, Some, None, option_map, position}
-use Rattle.std.specs.List.{position_or_len, before_first, after_first, slice_split}
+use Rattle.std.specs.Prelude.{◌≡◌, ℕ, ◌+◌, ◌*◌, ◌-◌, ◌^◌, Bool, false, not, ◌&&◌, ◌==◌, nat_eq, nat_le, nat_lt, if◌then◌else◌, List, [], ◌∷◌, ◌++◌, length, codes, Option, Some, None, option_map, position, Result, Ok, Err}
+use Rattle.std.specs.List.{list_all}
 use Rattle.std.specs.Option.{option_and_then}
 use Rattle.std.specs.Cmp.Lexicographic.{pointwise}
+use Rattle.ax_lex.specs.declared.token.TokenKind.TheVariants.{Global}
+use Rattle.ax_lex.specs.Bytes.{is_blank, is_digit}
+use Rattle.ax_lex.specs.Tokens.{is_token, is_empty}
 use Rattle.ax_sched.specs.declared.plan.Item.{Item}
-use Rattle.ax_sched.specs.declared.plan.Item.TheVariants.{Step}
+use Rattle.ax_sched.specs.declared.plan.Item.TheVariants.{Step, Drain, Drop, Round}
 use Rattle.ax_sched.specs.declared.plan.Plan.{Plan}
-use Rattle.ax_sched.specs.First.{is_digit, is_plain_name}
+use Rattle.ax_sched.specs.declared.directive.Verb.{Verb}
+use Rattle.ax_sched.specs.declared.directive.Verb.TheVariants as verb
+use Rattle.ax_sched.specs.declared.directive.Directive.{Directive}
+use Rattle.ax_sched.specs.declared.fault.Cause.{Cause}
+use Rattle.ax_sched.specs.declared.fault.Cause.TheVariants.{Syntax, ProcessorRange, UnknownEntry, TooMany}
+use Rattle.ax_sched.specs.declared.fault.SchedFault.{SchedFault}
+use Rattle.ax_sched.specs.declared.fault.SchedFault.TheVariants.{Bad, Memory}
+use Rattle.ax_sched.specs.declared.fault.Stop.{Stop}
+use Rattle.ax_sched.specs.declared.fault.Stop.TheVariants as stop
+use Rattle.ax_sched.specs.Plan.{times_of}
+use Rattle.ax_sched.specs.Lines.{turned, words_of}
+use Rattle.ax_sched.specs.Schedule.{name_in}
 
 -- the answer of a function, seen so, is what is read
 abbrev pub Gives : {X Y : Type 0} → (X → Y) → Option X → Option Y → Type 0
 Gives view None read = read ≡ None
 Gives view (Some x) read = read ≡ Some (view x)
 
-infixl 10 ◌>>=◌
-abbrev pub ◌>>=◌ : {A B : Type 0} → Option A → (A → Option B) → Option B
-o >>= f = option_and_then f o
+abbrev pub StopsAs : {Y : Type 0} → Stop → Result Y Cause → Type 0
+StopsAs stop.Memory read = Unit {0}
+StopsAs (stop.Bad c) read = read ≡ Err c
 
--- without the last line feed
-abbrev pub body : List ℕ → List ℕ
-body text = if slice_index text (length text - 1) == 10 then take (length text - 1) text else text
+-- the same, unless memory ran out
+abbrev pub ReadsAs : {X Y : Type 0} → (X → Y) → Result X Stop → Result Y Cause → Type 0
+ReadsAs view (Ok x) read = read ≡ Ok (view x)
+ReadsAs view (Err e) read = StopsAs e read
 
--- what stands behind this text
-abbrev pub strip : List ℕ → List ℕ → Option (List ℕ)
-strip [] line = Some line
-strip (s ∷ text) [] = None
-strip (s ∷ text) (b ∷ line) = if b == s then strip text line else None
+abbrev pub FaultsAs : {Y : Type 0} → SchedFault → Result Y (ℕ × Cause) → Type 0
+FaultsAs Memory read = Unit {0}
+FaultsAs (Bad line cause) read = read ≡ Err (line, cause)
 
--- what stands before and behind the first such byte
-abbrev pub cut : ℕ → List ℕ → Option (List ℕ × List ℕ)
-cut c line = if nat_lt (position_or_len (λ b. b == c) line) (length line) then Some (before_first (λ b. b == c) line, after_first (λ b. b == c) line) else None
+-- the same of a whole text
+abbrev pub AnswersAs : {X Y : Type 0} → (X → Y) → Result X SchedFault → Result Y (ℕ × Cause) → Type 0
+AnswersAs view (Ok x) read = read ≡ Ok (view x)
+AnswersAs view (Err e) read = FaultsAs e read
+
+abbrev pub fault_at : ℕ → Stop → SchedFault
+fault_at line (stop.Bad cause) = Bad line cause
+fault_at line stop.Memory = Memory
+
+abbrev pub at_line : {Y : Type 0} → ℕ → Result Y Cause → Result Y (ℕ × Cause)
+at_line line (Ok y) = Ok y
+at_line line (Err c) = Err (line, c)
+
+-- the same of the line of this number
+abbrev pub FirstAs : {X Y : Type 0} → (X → Y) → Result X SchedFault → ℕ → Result Y Cause → Type 0
+FirstAs view r line read = AnswersAs view r (at_line line read)
+
+-- ---- what may stop
+
+abbrev pub or_cause : {A B : Type 0} → Cause → Option A → (A → Result B Cause) → Result B Cause
+or_cause c None f = Err c
+or_cause c (Some x) f = f x
+
+abbrev pub and_at : {A B : Type 0} → ℕ → Result A Cause → (A → Result B (ℕ × Cause)) → Result B (ℕ × Cause)
+and_at line (Err c) f = Err (line, c)
+and_at line (Ok x) f = f x
+
+-- ---- words
+
+-- a word in the making, before further words
+abbrev pub ended : List ℕ → List (List ℕ) → List (List ℕ)
+ended [] ws = ws
+ended (b ∷ bs) ws = (b ∷ bs) ∷ ws
+
+abbrev pub words_from : List ℕ → Bool → List ℕ → List (List ℕ)
+words_from word quoted [] = ended word []
+words_from word quoted (b ∷ bs) = if is_blank b && not quoted then ended word (words_from [] quoted bs) else words_from (word ++ b ∷ []) (turned b quoted) bs
+
+-- ---- numbers
 
 -- a number below 2 ^ 64 without leading zeros
 abbrev pub number_from : ℕ → List ℕ → Option ℕ
@@ -40,39 +89,84 @@ abbrev pub number_of : List ℕ → Option ℕ
 number_of [] = None
 number_of (b ∷ bs) = if b == 48 && nat_lt 0 (length bs) then None else number_from 0 (b ∷ bs)
 
-abbrev pub function_named : List (List ℕ) → List ℕ → Option ℕ
-function_named names name = if is_plain_name name then position (λ f. pointwise nat_eq f name) names else None
+-- ---- the first line
+
+-- a quote alone
+abbrev pub is_quote : List ℕ → Bool
+is_quote [] = false
+is_quote (b ∷ bs) = b == 34 && is_empty bs
 
 abbrev pub entry_of : List (List ℕ) → List ℕ → Option ℕ
-entry_of names word = strip (codes "@") word >>= function_named names
+entry_of functions word = if is_token Global word then position (λ f. pointwise nat_eq f (name_in word)) functions else None
 
 -- the functions before these words, and those that they name
-abbrev pub entries_from : List (List ℕ) → List ℕ → List (List ℕ) → Option (List ℕ)
-entries_from names before [] = Some before
-entries_from names before (w ∷ ws) = entry_of names w >>= (λ f. entries_from names (before ++ f ∷ []) ws)
+abbrev pub entries_from : List (List ℕ) → List ℕ → List (List ℕ) → Result (List ℕ) Cause
+entries_from functions before [] = Ok before
+entries_from functions before (w ∷ ws) = or_cause UnknownEntry (entry_of functions w) (λ f. entries_from functions (before ++ f ∷ []) ws)
 
-abbrev pub processors_of : List (List ℕ) → List (List ℕ) → Option (List ℕ)
-processors_of names [] = None
-processors_of names (w ∷ ws) = if pointwise nat_eq w (codes "processors") && (nat_lt 0 (length ws) && nat_le (length ws) 8) then entries_from names [] ws else None
+abbrev pub is_first_line : List (List ℕ) → Bool
+is_first_line [] = false
+is_first_line (w ∷ ws) = pointwise nat_eq w (codes "processors") && list_all (is_token Global) ws
 
-abbrev pub numbers_of : List ℕ × List ℕ → Option (ℕ × ℕ)
-numbers_of x = number_of x.0 >>= (λ p. option_map (λ n. (p, n)) (number_of x.1))
+abbrev pub is_count : ℕ → Bool
+is_count k = nat_le 1 k && nat_le k 8
 
-unfoldable pub step_of : List ℕ → Option (ℕ × ℕ)
-step_of line = (strip (codes "step ") line >>= cut 32) >>= numbers_of
+abbrev pub counted_entries : List (List ℕ) → List (List ℕ) → Result (List ℕ) Cause
+counted_entries functions ws = if is_count (length ws) then entries_from functions [] ws else Err ProcessorRange
 
--- the directives before these lines, of so many events, and those that the lines spell, where there are k processors
-abbrev pub items_from : ℕ → List Item → ℕ → List (List ℕ) → Option (List Item)
-items_from k before events [] = Some before
-items_from k before events (line ∷ lines) = step_of line >>= (λ s. if nat_lt s.0 k && nat_le (events + s.1) 1000000 then items_from k (before ++ Step s.0 s.1 ∷ []) (events + s.1) lines else None)
+abbrev pub first_of : List (List ℕ) → List (List ℕ) → Result (List ℕ) Cause
+first_of functions [] = Err Syntax
+first_of functions (w ∷ ws) = if is_first_line (w ∷ ws) then counted_entries functions ws else Err Syntax
 
-abbrev pub planned : List ℕ → List Item → Plan
-planned es is = record { entries = es; items = is }
+-- ---- directives
 
-abbrev pub plan_of_lines : List (List ℕ) → List (List ℕ) → Option Plan
-plan_of_lines names [] = None
-plan_of_lines names (line ∷ lines) =
-    processors_of names (slice_split (λ b. b == 32) line) >>= (λ es. option_map (planned es) (items_from (length es) [] 0 lines))
+abbrev pub verb_of : List ℕ → Option Verb
+verb_of word = if pointwise nat_eq word (codes "step") then Some verb.Step else if pointwise nat_eq word (codes "drain") then Some verb.Drain else if pointwise nat_eq word (codes "drop") then Some verb.Drop else None
 
-abbrev pub plan_of : List (List ℕ) → List ℕ → Option Plan
-plan_of names text = plan_of_lines names (slice_split (λ b. b == 10) (body text))
+abbrev pub directive_of : Verb → ℕ → ℕ → Directive
+directive_of v p n = record { verb = v; p = p; n = n }
+
+abbrev pub round_from : List ℕ → List ℕ → Option Directive
+round_from word n = if pointwise nat_eq word (codes "round") then option_map (directive_of verb.Round 0) (number_of n) else None
+
+abbrev pub named_from : List ℕ → List ℕ → List ℕ → Option Directive
+named_from word p n = option_and_then (λ v. option_and_then (λ k. option_map (directive_of v k) (number_of n)) (number_of p)) (verb_of word)
+
+abbrev pub directive_from : List (List ℕ) → Option Directive
+directive_from [] = None
+directive_from (v ∷ []) = None
+directive_from (v ∷ a ∷ []) = round_from v a
+directive_from (v ∷ a ∷ b ∷ []) = named_from v a b
+directive_from (v ∷ a ∷ b ∷ c ∷ ws) = None
+
+abbrev pub item_by : Verb → ℕ → ℕ → Item
+item_by verb.Step p n = Step p n
+item_by verb.Drain p n = Drain p n
+item_by verb.Drop p n = Drop p n
+item_by verb.Round p n = Round n
+
+abbrev pub item_of : Directive → Item
+item_of d = item_by d.verb d.p d.n
+
+-- the directive's item, where there are k processors and so many events before it
+abbrev pub checked : ℕ → ℕ → Directive → Result Item Cause
+checked k events d = if nat_lt d.p k then (if nat_le (events + d.n) 1000000 then Ok (item_of d) else Err TooMany) else Err ProcessorRange
+
+abbrev pub item_from : ℕ → ℕ → List (List ℕ) → Result Item Cause
+item_from k events words = or_cause Syntax (directive_from words) (checked k events)
+
+-- ---- lines
+
+-- the directives before these lines, of so many events, and those that the lines state
+abbrev pub items_from : ℕ → List Item → ℕ → List (ℕ × List ℕ) → Result (List Item) (ℕ × Cause)
+items_from k before events [] = Ok before
+items_from k before events (l ∷ ls) = and_at l.0 (item_from k events (words_of l.1)) (λ i. items_from k (before ++ i ∷ []) (events + times_of i) ls)
+
+abbrev pub planned : List ℕ → Result (List Item) (ℕ × Cause) → Result Plan (ℕ × Cause)
+planned es (Ok is) = Ok (record { entries = es; items = is })
+planned es (Err e) = Err e
+
+-- what kept lines of a text with so many lines state
+abbrev pub plan_from : List (List ℕ) → ℕ → List (ℕ × List ℕ) → Result Plan (ℕ × Cause)
+plan_from functions total [] = Err (total, Syntax)
+plan_from functions total (l ∷ ls) = and_at l.0 (first_of functions (words_of l.1)) (λ es. planned es (items_from (length es) [] 0 ls))

@@ -1,11 +1,31 @@
 //! What a schedule says.
 
+ghost use Rattle.std.specs.Prelude.{◌≡◌};
+ghost use Rattle.ax_sched.specs.Plan.{times_of};
+
 use ax_ops::Items;
 
-/// One directive: `n` Steps of processor `p`, one after the other.
+/// One directive, which makes `n` events: Steps, Drains or Drops of processor `p`, one after the
+/// other, or Steps of all processors in turn, from processor 0 on. On a machine with buffers each
+/// Step of a `Round` is followed by two Drains of its processor, and these count.
 #[derive(Clone, Copy, Debug, PartialEq, Eq)]
 pub enum Item {
     Step { p: u8, n: u64 },
+    Drain { p: u8, n: u64 },
+    Drop { p: u8, n: u64 },
+    Round { n: u64 },
+}
+
+impl Item {
+    /// How many events it makes.
+    pub fn times(self) -> u64
+        ensures { result ≡ times_of self }
+    {
+        match self {
+            Item::Step { n, .. } | Item::Drain { n, .. } | Item::Drop { n, .. } => n,
+            Item::Round { n } => n,
+        }
+    }
 }
 
 /// The functions with which the processors begin, by position, and the directives in order.

@@ -1,2 +1,15 @@
+pub mod Typed
+pub mod Accepting
+pub mod Begins
+pub mod Blocks
+pub mod Elements
+pub mod Events
+pub mod Inside
+pub mod Narrow
+pub mod Natives
 pub mod Places
-pub mod State
+pub mod SetTogether
+pub mod Starts
+pub mod Stores
+pub mod Wholes
+pub mod Writes

@@ -1,59 +1,81 @@
--- Where a processor stands at its next instruction, and the global that the instruction names.
-use Rattle.std.proofs.Common.{◌≡◌, ℕ, ◌<◌, List, [], Option, Some, None, length, refl, sym, ap, ◌∙◌, subst, arith}
-use Rattle.std.specs.Prelude.{slice_get, slice_index_or}
-use Rattle.std.proofs.lemmas.List.Elements.{All-get_or}
-use Rattle.std.proofs.lemmas.Option.{slice_get_within, get_or_from_slice_get}
-use Rattle.ax_ops.specs.declared.source.SourceStatus.{SourceStatus}
-use Rattle.ax_ops.specs.declared.source.SourceStatus.TheVariants.{Running, Ended, Trapped}
-use Rattle.ax_source.specs.declared.first.FirstInst.{FirstInst}
-use Rattle.ax_source.specs.declared.first.FirstInst.TheVariants.{Load, Store, Add}
-use Rattle.ax_source.specs.declared.first.FirstValue.{FirstValue}
-use Rattle.ax_source.specs.WellFormed.{IsInst}
-use Rattle.ax_source.specs.Source.{inst_in}
-use Rattle.ax_source.specs.Machine.{MachineState, HasItsRoom, IsNext, Stands, if_running, idle, processor_in, with_number}
+-- Where an instruction stands in its function.
+use Rattle.std.proofs.Common.{◌≡◌, ℕ, zero, suc, ◌+◌, ◌<◌, ◌≤◌, List, [], ◌∷◌, ◌++◌, Option, Some, None, IsSome, IfSome, length, refl, sym, ap, ◌∙◌, subst, add-one, arith}
+use Rattle.std.specs.Prelude.{slice_get, slice_index_or, option_copied, is_some}
+use Rattle.std.specs.List.{flat_map}
+use Rattle.std.proofs.lemmas.Option.{slice_get_within}
+use Rattle.std.proofs.lemmas.Grind.{common_steps}
+use Rattle.std.specs.Borrow.{Bor}
+use Rattle.ax_ir.specs.declared.inst.Inst.{Inst}
+use Rattle.ax_ir.specs.declared.module.Block.{Block}
+use Rattle.ax_ir.specs.declared.module.Function.{Function}
+use Rattle.ax_layout.specs.SourceEvent.{inst_at, number_of_next}
+use Rattle.ax_layout.specs.SourceInstructions.{first_number, insts_of_block}
+use Rattle.ax_layout.specs.SourcePointers.{blocks_in, blocks_of, insts_of}
+use Rattle.ax_source.proofs.Narrow.{inst_narrow}
+use Rattle.ax_source.specs.ProcessorState.{ProcessorState, IsFound, IsSound, Stands, insts_in, starts_from, state_of}
 
-ran : (s : SourceStatus) (o : Option FirstInst) (i : FirstInst) → if_running s o ≡ Some i → o ≡ Some i
-ran Running o i e = e
-ran Ended o i e = cc
-ran Trapped o i e = cc
+-- ---- a block's instructions
+pub block_is : (blocks : List Block) (b : ℕ) → insts_of_block blocks b ≡ insts_in (slice_get blocks b)
+block_is [] b = refl
+block_is (x ∷ blocks) zero = refl
+block_is (x ∷ blocks) (suc b) = block_is blocks b
 
-record IsAt (o : Option (List FirstInst)) (k : ℕ) (i : FirstInst) : Type 0 where
-  insts : List FirstInst
-  function : o ≡ Some insts
-  inst : slice_get insts k ≡ Some i
+no_inst : (i : ℕ) → IsSome (slice_get {X = Inst} [] i) → ⊥
+no_inst i h = cc
 
-is_at : (o : Option (List FirstInst)) (k : ℕ) (i : FirstInst) → inst_in o k ≡ Some i → IsAt o k i
-is_at None k i e = cc
-is_at (Some insts) k i e = record { insts = insts; function = refl; inst = e }
+-- ---- their numbers
+pub has_block : (blocks : List Block) (b i : ℕ) → IsSome (slice_get (insts_of_block blocks b) i) → b < length blocks
+has_block [] b i h = absurd (no_inst i h)
+has_block (x ∷ blocks) zero i h = omega arith
+has_block (x ∷ blocks) (suc b) i h = let l = has_block blocks b i h in omega arith
 
-module _ (m : MachineState) (p : ℕ) (inst : FirstInst) where
-  found : IsNext m p inst → IsAt (slice_get m.program.functions (processor_in m p).function) (processor_in m p).place inst
-  found h = is_at _ _ _ (ran (processor_in m p).status _ inst h.next)
+pub start_at : (n : ℕ) (blocks : List Block) (b d : ℕ) → b < length blocks → slice_index_or (starts_from n blocks) b d ≡ n + first_number blocks b
+start_at n [] b d h = absurd (omega arith)
+start_at n (x ∷ blocks) zero d h = omega arith
+start_at n (x ∷ blocks) (suc b) d h = let e = start_at (n + length x.insts) blocks b d (omega arith) in omega arith
 
-  pub stands_next : IsNext m p inst → Stands m p
-  stands_next h =
-      let c = processor_in m p in
-      let a = found h in
-      let room : HasItsRoom m.program c = All-get_or (HasItsRoom m.program) m.processors p idle h.processor h.sound.processors in
-      let same : slice_index_or m.program.functions c.function [] ≡ a.insts = get_or_from_slice_get m.program.functions c.function a.insts [] a.function in
-      let within : c.place < length a.insts = slice_get_within a.insts c.place inst a.inst in
-      record { processor = h.processor; place = (let e : length c.values ≡ length a.insts = room.values ∙ ap length same in omega arith) }
+pub starts_size : (n : ℕ) (blocks : List Block) → length (starts_from n blocks) ≡ length blocks
+starts_size n [] = refl
+starts_size n (x ∷ blocks) = ap suc (starts_size (n + length x.insts) blocks)
 
-  -- each instruction is as its function's well-formedness says
-  well_formed : (h : IsNext m p inst) → IsInst (length m.program.globals) (found h).insts (processor_in m p).place inst
-  well_formed h = (h.sound.program.functions _ _ (found h).function).each _ inst (found h).inst
+within : (insts : List Inst) (i : ℕ) → IsSome (slice_get insts i) → i < length insts
+within [] i h = absurd (no_inst i h)
+within (x ∷ insts) zero h = omega arith
+within (x ∷ insts) (suc i) h = let l = within insts i h in omega arith
 
-pub load_names : (m : MachineState) (p : ℕ) (g o : ℕ) → IsNext m p (Load g o) → g < length m.program.globals
-load_names m p g o h = (well_formed m p (Load g o) h).0
+joined : (xs ys : List Inst) → length (xs ++ ys) ≡ length xs + length ys
+joined xs ys = grind (arith, common_steps)
 
-pub store_names : (m : MachineState) (p : ℕ) (v : FirstValue) (g o : ℕ) → IsNext m p (Store v g o) → g < length m.program.globals
-store_names m p v g o h = (well_formed m p (Store v g o) h).1
+pub number_within : (blocks : List Block) (b i : ℕ) → IsSome (slice_get (insts_of_block blocks b) i) → first_number blocks b + i < length (flat_map (λ (block : Block). block.insts) blocks)
+number_within [] b i h = absurd (no_inst i h)
+number_within (x ∷ blocks) zero i h =
+    let l = within x.insts i h in let e = joined x.insts (flat_map (λ (block : Block). block.insts) blocks) in omega arith
+number_within (x ∷ blocks) (suc b) i h =
+    let l = number_within blocks b i h in let e = joined x.insts (flat_map (λ (block : Block). block.insts) blocks) in omega arith
 
-pub add_names : (m : MachineState) (p g : ℕ) (v : FirstValue) (o : ℕ) → IsNext m p (Add g v o) → g < length m.program.globals
-add_names m p g v o h = (well_formed m p (Add g v o) h).0
+module _ (c : ProcessorState) (sound : IsSound c) (h : IsSome (inst_at c.program (state_of c))) where
+  pub stands_at : Stands c (number_of_next c.program (state_of c))
+  stands_at =
+      let l = number_within (blocks_of c.program.source c.function) c.block c.index h in
+      let few = sound.runnable.few c.function in
+      record { index = omega arith; result = l }
 
--- it stands there still when a number is set
-pub stands_set : (m new : MachineState) (p g n : ℕ) → new ≡ with_number g n m → Stands m p → Stands new p
-stands_set m new p g n e s =
-    let s' : Stands (with_number g n m) p = record { processor = s.processor; place = s.place } in
-    subst (λ x. Stands x p) (sym e) s'
+pub block_within : (v : ProcessorState) (starts : List ℕ) (b : ℕ) → starts ≡ starts_from 0 (blocks_of v.program.source v.function) → b ≡ v.block → IsSome (inst_at v.program (state_of v)) → b < length starts
+block_within v starts b e f h =
+    let l = has_block (blocks_of v.program.source v.function) v.block v.index h in
+    let s = ap length e ∙ starts_size 0 (blocks_of v.program.source v.function) in
+    omega arith
+
+pub number_is : (v : ProcessorState) (starts : List ℕ) (b i r : ℕ) → starts ≡ starts_from 0 (blocks_of v.program.source v.function) → b ≡ v.block → i ≡ v.index → IsSome (inst_at v.program (state_of v)) → r ≡ slice_index_or starts b r
+    → r + i ≡ number_of_next v.program (state_of v)
+number_is v starts b i r e f g h is =
+    let blocks = blocks_of v.program.source v.function in
+    let s : r ≡ 0 + first_number blocks v.block = is ∙ ap (λ ss. slice_index_or ss b r) e ∙ ap (λ k. slice_index_or (starts_from 0 blocks) k r) f ∙ start_at 0 blocks v.block r (has_block blocks v.block v.index h) in
+    omega arith
+
+pub found : (c : ProcessorState) (r : Option (Bor Inst)) → IsSound c → option_copied r ≡ inst_at c.program (state_of c) → IfSome r (λ inst. IsFound c inst.now)
+found c None sound e = tt
+found c (Some inst) sound e = record {
+  narrow = inst_narrow c.program.source sound.runnable.narrow c.function c.block c.index inst.now (sym e);
+  here = sym (ap is_some e);
+}

@@ -1,4 +1,14 @@
-pub mod WellFormed
-pub mod Source
+pub mod Accesses
+pub mod Beginnings
+pub mod Calls
+pub mod Instructions
+pub mod Kinds
 pub mod MachineState
-pub mod Machine
+pub mod MachineSteps
+pub mod Memories
+pub mod PendingState
+pub mod Phis
+pub mod ProcessorState
+pub mod Runnable
+pub mod Shapes
+pub mod Values

@@ -1,13 +1,25 @@
 //! The source machine: what a module means, one source event at a time.
 #![tactic(auto)]
 
-pub mod first;
+mod access;
+mod arrays;
+mod calls;
+mod deeds;
+mod instructions;
+pub mod laws;
+mod looks;
 pub mod machine;
+mod memory;
+mod operands;
+mod pending;
+mod phis;
 mod processor;
+mod results;
+mod value;
 
 pub use ax_ops::{Items, SourceEvent, SourceStatus};
-pub use first::{First, FirstInst, FirstValue};
+pub use laws::accepted_modules_are_runnable;
 pub use machine::Machine;
 
 #[cfg(test)]
-mod tests;
+mod worked_tests;

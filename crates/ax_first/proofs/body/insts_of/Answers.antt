@@ -1,5 +1,5 @@
 use Rattle.std.proofs.Common.{◌∙◌, List, ap, sym, arith}
-use Rattle.ax_source.specs.declared.first.FirstInst.{FirstInst}
+use Rattle.ax_first.specs.declared.first.FirstInst.{FirstInst}
 use Rattle.ax_first.specs.FirstKind.{inst_of}
 use Rattle.ax_first.proofs.Each.{drop_is}
 use Rattle.ax_first.proofs.Insts.{insts_none, insts_some, insts_end}

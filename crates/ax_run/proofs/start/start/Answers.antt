@@ -1,4 +1,4 @@
-use Rattle.std.proofs.Common.{◌≡◌, ◌+◌, ◌*◌, ◌/◌, ◌≤◌, All, length, List, ℕ, refl, sym, ap, ◌∙◌, subst, arith}
+use Rattle.std.proofs.Common.{◌≡◌, ◌+◌, ◌*◌, ◌/◌, All, length, List, ℕ, refl, sym, ap, ◌∙◌, subst, arith}
 use Rattle.ax_store.specs.Regions.{IsFrameSize}
 use Rattle.ax_lower.specs.Layout.{end_of}
 use Rattle.ax_run.specs.Start.{cpus_from, frames_for, storage_with}

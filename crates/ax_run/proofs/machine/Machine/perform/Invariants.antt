@@ -1,7 +1,6 @@
-use Rattle.std.proofs.Common.{◌≡◌, ◌≤◌, ◌++◌, map, drop}
+use Rattle.std.proofs.Common.{◌≡◌, ◌≤◌, ◌++◌, false, flat_map, length, drop}
 use Rattle.std.specs.List.{sum_by}
-use Rattle.ax_isa.specs.declared.events.Event.TheVariants.{Step}
-use Rattle.ax_sched.specs.Events.{steps_of}
+use Rattle.ax_sched.specs.Events.{item_events}
 use Rattle.ax_sched.specs.Plan.{times_of}
 use Rattle.ax_run.specs.Machine.{GoesOn, Kept}
 use Rattle.ax_run.proofs.machine.Machine.perform.Given as goal
@@ -9,6 +8,6 @@ use Rattle.ax_run.proofs.machine.Machine.perform.Given as goal
 abbrev pub invariant-loop-item : goal.invariant-loop-item
 invariant-loop-item l =
     GoesOn l.fn.self l.self
-    × (l.self.events ++ map Step (steps_of (drop l.item-index l.items)) ≡ l.fn.self.events ++ map Step (steps_of l.items))
+    × (l.self.events ++ flat_map (item_events false (length l.fn.self.processors)) (drop l.item-index l.items) ≡ l.fn.self.events ++ flat_map (item_events false (length l.fn.self.processors)) l.items)
     × (sum_by times_of (drop l.item-index l.items) ≤ l.self.room)
     × Kept l.fn.self l.self

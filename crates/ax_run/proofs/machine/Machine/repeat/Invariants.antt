@@ -1,11 +1,11 @@
-use Rattle.std.proofs.Common.{◌≡◌, ◌+◌, ◌++◌, map, replicate}
-use Rattle.ax_isa.specs.declared.events.Event.TheVariants.{Step}
+use Rattle.std.proofs.Common.{◌≡◌, ◌+◌, ◌++◌, false, length, take}
+use Rattle.ax_sched.specs.Events.{item_events}
 use Rattle.ax_run.specs.Machine.{GoesOn, Kept}
 use Rattle.ax_run.proofs.machine.Machine.repeat.Given as goal
 
-abbrev pub invariant-loop-i : goal.invariant-loop-i
-invariant-loop-i l =
+abbrev pub invariant-loop-k : goal.invariant-loop-k
+invariant-loop-k l =
     GoesOn l.fn.self l.self
-    × (l.self.events ≡ l.fn.self.events ++ map Step (replicate l._i l.p))
-    × (l.self.room + l._i ≡ l.fn.self.room)
+    × (l.self.events ≡ l.fn.self.events ++ take l.k (item_events false (length l.fn.self.processors) l.item))
+    × (l.self.room + l.k ≡ l.fn.self.room)
     × Kept l.fn.self l.self

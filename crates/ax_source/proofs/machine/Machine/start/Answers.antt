@@ -1,20 +1,21 @@
-use Rattle.std.proofs.Common.{List, All, length, sym, ap, ◌∙◌, subst, arith}
-use Rattle.ax_source.specs.Machine.{ProcessorState, HasItsRoom}
-use Rattle.ax_source.proofs.State.{started, rooms}
+use Rattle.std.proofs.Common.{List, map, ap, ◌∙◌, arith}
+use Rattle.ax_ir.specs.declared.module.Global.{Global}
+use Rattle.ax_ir.specs.declared.module.Module.{Module}
+use Rattle.ax_source.specs.Memories.{initial_array}
+use Rattle.ax_source.proofs.Begins.{started, whole}
 use Rattle.ax_source.proofs.machine.Machine.start.Goals as goal
 
 pub invariant_of-result : goal.invariant_of-result
 invariant_of-result c =
-    let program = c.args.p.now in (
+    let globals = c.of.ensures ∙ c.in_ok-globals.ensures ∙ ap (λ (gs : List Global). map initial_array gs) (c.as_slice.ensures ∙ ap (λ (m : Module). m.globals) c.module.ensures) in (
       omega (arith, c.in_ok-outputs.ensures.len, c.in_ok-outputs.ensures.exact),
-      record {
-        program = c.requires;
-        numbers = ap length (c.in_ok-numbers.ensures.items ∙ c.as_slice.ensures);
-        processors = subst (λ (cs : List ProcessorState). All (HasItsRoom program) cs) (sym c.in_ok-processors.ensures) (rooms program c.args.entries.now);
-      },
+      whole c.args.program.now c.args.events c.args.entries.now c.of.result c.in_ok-outputs.outputs.items c.in_ok-processors.processors.items (c.accepted_modules_are_runnable.ensures c.args.program.now c.is_without_faults.ensures) globals c.in_ok-processors.ensures,
     )
 
 pub returns-clause-state : goal.returns-clause-state
 returns-clause-state c =
-    started c.args.p.now c.args.entries.now c.in_ok-numbers.numbers.items c.in_ok-outputs.outputs.items c.in_ok-processors.processors.items c.args.events
-    (c.in_ok-numbers.ensures.items ∙ c.as_slice.ensures) c.in_ok-outputs.ensures.items c.in_ok-processors.ensures
+    let globals = c.of.ensures ∙ c.in_ok-globals.ensures ∙ ap (λ (gs : List Global). map initial_array gs) (c.as_slice.ensures ∙ ap (λ (m : Module). m.globals) c.module.ensures) in
+    started c.args.program.now c.args.events c.args.entries.now c.of.result c.in_ok-outputs.outputs.items c.in_ok-processors.processors.items globals c.in_ok-outputs.ensures.items c.in_ok-processors.ensures
+
+pub processors-requires : goal.processors-requires
+processors-requires c = c.accepted_modules_are_runnable.ensures c.args.program.now c.is_without_faults.ensures

@@ -1,0 +1,83 @@
+//! Modules that are built: what the bytes of a module file come to.
+
+ghost use Rattle.std.specs.Prelude.{◌≡◌, ◌≤◌, ℕ, List, length, MatchResult, Some};
+ghost use Rattle.ax_ir.specs.WellFormed.{IsModule};
+ghost use Rattle.ax_first.specs.Alike.{on_rv64};
+ghost use Rattle.ax_read.specs.Derivation.{IsReadFault};
+ghost use Rattle.ax_check.specs.Faults.{IsFirstOfFaults};
+ghost use Rattle.ax_app.specs.Judged.{IsAcceptedAs, IsBuiltAs, RefusesModule, RefusesSource};
+
+use crate::places::Names;
+use crate::verdict::Verdict;
+use ax_check::{Accepted, CheckFault, Refusal, check};
+use ax_first::{FirstModule, first_of};
+use ax_ir::Module;
+use ax_read::{ReadFault, read};
+use ax_target::Target;
+use std::alloc::Global;
+
+/// RV64 with the A extension.
+const RV64: Target = Target::Rv {
+    zabha: false,
+    zacas: false,
+};
+
+/// A module that is built, and the program that it is.
+#[derive(Drop)]
+pub struct Built {
+    pub accepted: Accepted,
+    pub first: FirstModule,
+}
+
+fn unread(fault: ReadFault) -> Verdict
+    ensures { (bytes : List ℕ) → IsReadFault bytes fault → RefusesModule bytes result }
+{
+    match fault {
+        ReadFault::Syntax { line } => Verdict::Syntax { line },
+        ReadFault::Opcode { line } => Verdict::Opcode { line },
+        ReadFault::Name { line } => Verdict::Name { line },
+        ReadFault::Memory => Verdict::Memory,
+    }
+}
+
+/// A module without faults on RV64, or its first fault.
+fn accepted_of(alloc: Global, source: Module) -> Result<Accepted, Verdict>
+    requires { IsModule source }
+    ensures { MatchResult result (λ accepted. IsAcceptedAs source accepted) (λ v. RefusesSource source v) }
+{
+    let names = match Names::of(alloc, &source) {
+        Ok(names) => names,
+        Err(_) => return Err(Verdict::Memory),
+    };
+    let refusal = match check(alloc, source, RV64) {
+        Ok(accepted) => return Ok(accepted),
+        Err(CheckFault::Refused(refusal)) => refusal,
+        Err(CheckFault::Memory) => return Err(Verdict::Memory),
+    };
+    let Refusal { number, place } = refusal;
+    match names.place(alloc, place) {
+        Ok(place) => Err(Verdict::Refused { number, place }),
+        Err(_) => Err(Verdict::Memory),
+    }
+}
+
+/// The module of a module file's bytes, if it is built.
+#[tactic(auto, using(crate::proofs::Causes::source_refused))]
+pub(crate) fn built_of(alloc: Global, bytes: &[u8]) -> Result<Built, Verdict>
+    requires { length bytes.now ≤ 4194304 }
+    ensures { MatchResult result (λ built. IsBuiltAs bytes.now built) (λ v. RefusesModule bytes.now v) }
+{
+    let source = match read(alloc, bytes) {
+        Ok(source) => source,
+        Err(fault) => return Err(unread(fault)),
+    };
+    let accepted = match accepted_of(alloc, source) {
+        Ok(accepted) => accepted,
+        Err(verdict) => return Err(verdict),
+    };
+    match first_of(alloc, accepted.module()) {
+        Ok(Some(first)) => Ok(Built { accepted, first }),
+        Ok(None) => Err(Verdict::Unbuilt),
+        Err(_) => Err(Verdict::Memory),
+    }
+}

@@ -1,9 +1,0 @@
-use Rattle.std.proofs.Common.{◌≡◌, ◌≤◌, [], drop, map}
-use Rattle.ax_sched.specs.Reading.{items_from}
-use Rattle.ax_sched.proofs.first.read_items.Given as goal
-
-abbrev pub invariant-loop-line : goal.invariant-loop-line
-invariant-loop-line l = record {
-  few : l.events ≤ 1000000;
-  read : items_from l.processors l.items.items l.events (map (λ x. x.now) (drop l.line-index l.lines)) ≡ items_from l.processors [] 0 (map (λ x. x.now) l.lines);
-}

@@ -1,0 +1,42 @@
+-- Lists of stores that wait.
+use Rattle.std.proofs.Common.{◌≡◌, ℕ, zero, suc, ◌+◌, ◌<◌, ◌≤◌, Bool, true, false, ◌&&◌, List, [], ◌∷◌, ◌++◌, All, length, take, drop, refl, sym, ap, ◌∙◌, arith}
+use Rattle.std.specs.Prelude.{nat_eq, if◌then◌else◌, slice_index_or}
+use Rattle.std.proofs.Math.Seq.{drop-cons}
+use Rattle.ax_layout.specs.SourcePointers.{Elements}
+use Rattle.ax_layout.specs.SourceAccess.{element_set, newest, written_out}
+use Rattle.ax_layout.specs.SourceState.{PendingStore}
+use Rattle.ax_source.specs.PendingState.{HaveCells}
+use Rattle.ax_source.specs.Shapes.{IsCell}
+
+drop_next : (stores : List PendingStore) (k j : ℕ) (d : PendingStore) → j ≡ k + 1 → k < length stores → drop k stores ≡ slice_index_or stores k d ∷ drop j stores
+drop_next (s ∷ stores) zero j d e h = let f : j ≡ suc zero = omega arith in rw f refl
+drop_next (s ∷ stores) (suc k) zero d e h = absurd (omega arith)
+drop_next (s ∷ stores) (suc k) (suc j) d e h = drop_next stores k j d (omega arith) (omega arith)
+drop_next [] k j d e h = absurd (omega arith)
+
+pub newest_next : (g i n : ℕ) (stores : List PendingStore) (k j : ℕ) (s : PendingStore) → j ≡ k + 1 → k < length stores → s ≡ slice_index_or stores k s
+    → newest g i (drop k stores) n ≡ newest g i (drop j stores) (if nat_eq g s.global && nat_eq i s.element then s.number else n)
+newest_next g i n stores k j s e h is = ap (λ ss. newest g i ss n) (drop_next stores k j s e h) ∙ ap (λ (t : PendingStore). newest g i (drop j stores) (if nat_eq g t.global && nat_eq i t.element then t.number else n)) (sym is)
+
+pub ruleset newer = (newest_next)
+
+pub written_next : (numbers : ℕ → ℕ → ℕ) (stores : List PendingStore) (k j : ℕ) (s : PendingStore) → j ≡ k + 1 → k < length stores → s ≡ slice_index_or stores k s
+    → written_out (drop k stores) numbers ≡ written_out (drop j stores) (element_set s.global s.element s.number numbers)
+written_next numbers stores k j s e h is = ap (λ ss. written_out ss numbers) (drop_next stores k j s e h) ∙ ap (λ (t : PendingStore). written_out (drop j stores) (element_set t.global t.element t.number numbers)) (sym is)
+
+pub all_drained : (stores : List PendingStore) (k : ℕ) → length stores ≤ k → drop k stores ≡ []
+all_drained [] zero h = refl
+all_drained [] (suc k) h = refl
+all_drained (s ∷ stores) zero h = absurd (omega arith)
+all_drained (s ∷ stores) (suc k) h = all_drained stores k (omega arith)
+
+pub ruleset written = (written_next, all_drained)
+
+pub drop_push : (stores : List PendingStore) (k : ℕ) (s : PendingStore) → k ≤ length stores → drop k (stores ++ s ∷ []) ≡ drop k stores ++ s ∷ []
+drop_push stores zero s h = refl
+drop_push [] (suc k) s h = absurd (omega arith)
+drop_push (t ∷ stores) (suc k) s h = drop_push stores k s (omega arith)
+
+pub ruleset appended = (drop_push)
+
+pub ruleset oldest = (written_next, all_drained)

@@ -1,0 +1,27 @@
+-- Processors at their first instructions.
+use Rattle.std.specs.Prelude.{ℕ, [], None, if◌then◌else◌, length, map, replicate}
+use Rattle.ax_ops.specs.declared.source.SourceStatus.TheVariants.{Running}
+use Rattle.ax_target.specs.Targets.{is_buffered}
+use Rattle.ax_layout.specs.SourcePointers.{insts_of}
+use Rattle.ax_layout.specs.SourceState.{SourceProgram}
+use Rattle.ax_source.specs.declared.value.Value.TheVariants as value
+use Rattle.ax_source.specs.Memories.{zeros_of}
+use Rattle.ax_source.specs.ProcessorState.{ProcessorState}
+
+-- a processor at the first instruction of a function
+abbrev pub begun : SourceProgram → ℕ → ℕ → ProcessorState
+begun program room f = record {
+  program = program;
+  function = f;
+  block = 0;
+  index = 0;
+  results = replicate (length (insts_of program.source f)) (value.Number 0);
+  arrays = map zeros_of (insts_of program.source f);
+  status = Running;
+  seen = None;
+  waiting = record { stores = []; room = room };
+}
+
+-- where the target has no buffers no store waits
+abbrev pub room_for : SourceProgram → ℕ → ℕ
+room_for program events = if is_buffered program.target then events else 0
