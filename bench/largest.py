@@ -11,7 +11,7 @@ import tempfile
 import time
 
 GLOBALS = 256
-FUNCTIONS = 34  # more of such functions pass the limit of a module file
+FUNCTIONS = 33  # more of such functions pass the limit of a module file
 LINES = 2047
 
 
