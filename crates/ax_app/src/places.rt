@@ -7,7 +7,7 @@ ghost use Rattle.ax_ir.specs.WellFormed.{IsModule};
 ghost use Rattle.ax_app.specs.Places.{AreNamesOf, name_at, place_text};
 
 use ax_first::{function_names, global_names};
-use ax_ir::{Module, Name, Place};
+use ax_ir::{Module, Name, Place, names_are_ascii};
 use std::alloc::{AllocError, Global};
 
 /// The names of a module's globals and functions, which outlive it.
@@ -33,6 +33,7 @@ impl Names {
         requires { IsModule source.now }
         ensures { IfOk result (λ names. AreNamesOf names source.now) }
     {
+        names_are_ascii();
         Ok(Names {
             globals: global_names(alloc, source.globals.as_slice())?,
             functions: function_names(alloc, source.functions.as_slice())?,

@@ -10,6 +10,7 @@ use crate::built::Built;
 use crate::report::push_report;
 use crate::verdict::Verdict;
 use ax_first::FirstModule;
+use ax_ir::names_are_ascii;
 use ax_lower::{lower, runs_begin_alike};
 use ax_run::prepare;
 use ax_sched::{Plan, SchedFault, read_schedule};
@@ -22,6 +23,7 @@ fn text_of(alloc: Global, built: Built, plan: &Plan) -> Result<String, AllocErro
     ensures { IfOk result (λ text. IsTextOf built.accepted.source plan.now (string_bytes text)) }
 {
     runs_begin_alike();
+    names_are_ascii();
     let Built { accepted: _, first } = built;
     let FirstModule {
         globals,

@@ -3,6 +3,7 @@
 
 pub mod bits;
 pub mod items;
+pub mod laws;
 pub mod mark;
 pub mod operation;
 pub mod order;
@@ -13,6 +14,7 @@ pub mod width;
 
 pub use bits::Bits;
 pub use items::Items;
+pub use laws::results_fit;
 pub use mark::{FenceCode, Mark, MarkCode, Op};
 pub use operation::{RmwOp, apply};
 pub use order::{Access, Order, abi_number, from_abi, legal, merged};

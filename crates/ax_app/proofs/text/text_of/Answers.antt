@@ -8,19 +8,18 @@ use Rattle.ax_lower.specs.FirstLowers.{run_of}
 use Rattle.ax_print.specs.Assembly.{assembly_text}
 use Rattle.ax_run.specs.Run.{IsOf}
 use Rattle.ax_app.specs.Report.{run_report}
-use Rattle.ax_app.proofs.Ascii.{global_names_ascii, function_names_ascii}
 use Rattle.ax_app.proofs.Reports.{begun, gone}
 use Rattle.ax_app.proofs.text.text_of.Goals as goal
 
 pub print-requires-clause-names : goal.print-requires-clause-names
 print-requires-clause-names c =
     let p = c.requires.program in
-    subst (λ l. All (λ name. IsAscii name) l) (sym (c.in_ok-lowered.ensures.names ∙ p.kept.function_names)) (function_names_ascii c.args.built.accepted.source p.formed)
+    subst (λ l. All (λ name. IsAscii name) l) (sym (c.in_ok-lowered.ensures.names ∙ p.kept.function_names)) (c.names_are_ascii.ensures.functions c.args.built.accepted.source p.formed)
 
 pub push_report-requires-clause-bytes : goal.push_report-requires-clause-bytes
 push_report-requires-clause-bytes c =
     let p = c.requires.program in
-    subst (λ l. All (λ name. IsAscii name) l) (sym (c.as_slice.ensures ∙ p.kept.global_names)) (global_names_ascii c.args.built.accepted.source p.formed)
+    subst (λ l. All (λ name. IsAscii name) l) (sym (c.as_slice.ensures ∙ p.kept.global_names)) (c.names_are_ascii.ensures.globals c.args.built.accepted.source p.formed)
 
 pub returns : goal.returns
 returns c =

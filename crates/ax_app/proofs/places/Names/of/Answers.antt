@@ -1,7 +1,6 @@
 use Rattle.std.proofs.Common.{◌≡◌, List, map, sym, ap, ◌∙◌, subst}
 use Rattle.std.specs.Prelude.{All}
 use Rattle.ax_ir.specs.Names.{IsAscii}
-use Rattle.ax_app.proofs.Ascii.{global_names_ascii, function_names_ascii}
 use Rattle.ax_app.proofs.places.Names.of.Goals as goal
 
 pub returns : goal.returns
@@ -12,6 +11,6 @@ returns c =
     record {
       globals = globals;
       functions = functions;
-      globals_ascii = subst (λ l. All (λ name. IsAscii name) l) (sym globals) (global_names_ascii m c.requires);
-      functions_ascii = subst (λ l. All (λ name. IsAscii name) l) (sym functions) (function_names_ascii m c.requires);
+      globals_ascii = subst (λ l. All (λ name. IsAscii name) l) (sym globals) (c.names_are_ascii.ensures.globals m c.requires);
+      functions_ascii = subst (λ l. All (λ name. IsAscii name) l) (sym functions) (c.names_are_ascii.ensures.functions m c.requires);
     }
