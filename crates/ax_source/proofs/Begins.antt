@@ -1,23 +1,22 @@
 -- A machine at its start.
-use Rattle.std.proofs.Common.{◌≡◌, ℕ, zero, suc, ◌≤◌, ◌<◌, Bool, true, false, List, [], ◌∷◌, Option, Some, None, All, IsTrue, length, map, replicate, refl, sym, ap, ◌∙◌, subst, arith}
-use Rattle.std.specs.Prelude.{slice_get, slice_index_or, if◌then◌else◌}
+use Rattle.std.proofs.Common.{◌≡◌, ℕ, zero, suc, ◌≤◌, Bool, true, false, List, [], ◌∷◌, Some, None, All, length, map, replicate, refl, sym, ap, ◌∙◌, subst, arith}
+use Rattle.std.specs.Prelude.{slice_get, if◌then◌else◌}
 use Rattle.std.proofs.lemmas.Bool.{and_parts}
-use Rattle.std.proofs.lemmas.List.{length-replicate, length-map}
+use Rattle.std.proofs.lemmas.List.{length-replicate}
 use Rattle.std.proofs.lemmas.List.Elements.{All-map}
-use Rattle.std.specs.List.{list_all}
 use Rattle.ax_ops.specs.declared.source.SourceStatus.TheVariants.{Running}
 use Rattle.ax_target.specs.Targets.{is_buffered}
 use Rattle.ax_layout.specs.SourcePointers.{insts_of}
 use Rattle.ax_layout.specs.SourceRun.{first_processor, source_start}
-use Rattle.ax_layout.specs.SourceState.{Number, SourceProgram}
+use Rattle.ax_layout.specs.SourceState.{SourceProgram}
 use Rattle.ax_source.specs.declared.value.Value.TheVariants as value
-use Rattle.ax_source.specs.MachineState.{Belongs, IsWhole, MachineState}
+use Rattle.ax_source.specs.MachineState.{Belongs, IsWhole}
 use Rattle.ax_source.specs.Beginnings.{begun, room_for}
 use Rattle.ax_source.specs.MachineSteps.{processor_at, state_of}
-use Rattle.ax_source.specs.Memories.{initial_array, zeros_of}
+use Rattle.ax_source.specs.Memories.{initial_array}
 use Rattle.ax_source.specs.ProcessorState.{IsSound, ProcessorState, state_of as processor_of}
 use Rattle.ax_source.specs.Runnable.{IsRunnable}
-use Rattle.ax_source.specs.Shapes.{ArrayState, cells_of, shapes_of, values_of}
+use Rattle.ax_source.specs.Shapes.{ArrayState, shapes_of}
 use Rattle.ax_source.proofs.Starts.{initial_numbers, initial_shapes, zeros_cells, zeros_shapes}
 use Rattle.ax_source.proofs.Writes.{no_results}
 

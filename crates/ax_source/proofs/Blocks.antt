@@ -1,11 +1,11 @@
 -- A processor that goes to a block.
-use Rattle.std.proofs.Common.{◌≡◌, ℕ, zero, suc, ◌+◌, ◌<◌, ◌≤◌, Bool, true, false, List, [], ◌∷◌, ◌⊎◌, length, refl, sym, ap, ◌∙◌, ⊎_elim, arith}
+use Rattle.std.proofs.Common.{◌≡◌, ℕ, zero, suc, ◌+◌, ◌<◌, ◌≤◌, Bool, true, false, List, [], ◌∷◌, length, refl, sym, ap, ◌∙◌, ⊎_elim, arith}
 use Rattle.std.specs.Prelude.{slice_index_or, if◌then◌else◌}
 use Rattle.std.specs.List.{flat_map}
 use Rattle.std.proofs.lemmas.Bool.{cases_lt}
 use Rattle.ax_ir.specs.declared.inst.Inst.{Inst}
 use Rattle.ax_ir.specs.declared.module.Block.{Block}
-use Rattle.ax_layout.specs.SourceInstructions.{first_number, insts_of_block, is_phi, phi_count, phi_number, phis_set}
+use Rattle.ax_layout.specs.SourceInstructions.{first_number, insts_of_block, is_phi, phi_count, phis_set}
 use Rattle.ax_layout.specs.SourceState.{SourceValue}
 use Rattle.ax_source.specs.Phis.{numbers_put, phi_numbers}
 use Rattle.ax_source.specs.ProcessorState.{starts_from}

@@ -1,16 +1,16 @@
 -- What events of processors are to the machine.
-use Rattle.std.proofs.Common.{◌≡◌, ℕ, zero, suc, ◌+◌, ◌<◌, ◌≤◌, Bool, true, false, List, [], ◌∷◌, ◌++◌, Option, Some, None, All, length, take, drop, refl, sym, ap, ◌∙◌, append-nil, arith}
+use Rattle.std.proofs.Common.{◌≡◌, ℕ, zero, suc, ◌<◌, Bool, true, false, List, [], ◌∷◌, ◌++◌, Option, Some, None, length, take, drop, refl, sym, ap, ◌∙◌, append-nil, arith}
 use Rattle.std.specs.Prelude.{slice_get, slice_index_or, slice_set, nat_eq, if◌then◌else◌}
 use Rattle.std.proofs.lemmas.Bool.Decides.{nat_tests}
-use Rattle.std.proofs.lemmas.Grind.{common_steps}
 use Rattle.std.proofs.lemmas.Option.{slice_get-get_or}
 use Rattle.ax_ir.specs.declared.inst.Inst.{Inst}
+use Rattle.ax_ops.specs.declared.source.SourceEvent.{SourceEvent}
 use Rattle.ax_ops.specs.declared.source.SourceEvent.TheVariants.{Act, Look, Miss, Drain}
-use Rattle.ax_layout.specs.SourceAccess.{Deed, gets, put_at, written_out}
+use Rattle.ax_layout.specs.SourceAccess.{element_set, gets, put_at, written_out}
 use Rattle.ax_layout.specs.SourceEvent.{act, after, drained, expected_by, look, looked, miss, missed, next_inst, number_of_next, outputs_of, seen_by, source_event, with_processor}
 use Rattle.ax_layout.specs.SourceState.{Pair, PendingStore, SourceProcessor, SourceProgram, SourceState}
 use Rattle.ax_source.specs.Accesses.{Does, act_deed}
-use Rattle.ax_source.specs.MachineSteps.{look_of, looked_at, miss_of, missed_at, processor_at, processors_of, state_of}
+use Rattle.ax_source.specs.MachineSteps.{alone, event_deed, look_of, looked_at, miss_of, missed_at, named_by, processor_at, processors_of, state_of}
 use Rattle.ax_source.specs.MachineState.{MachineState}
 use Rattle.ax_source.specs.ProcessorState.{ProcessorState, state_of as processor_of}
 use Rattle.ax_source.specs.Shapes.{ArrayState, cells_of}
@@ -72,13 +72,21 @@ module _ (program : SourceProgram) (p : ℕ) (s : SourceState) where
   miss_is None = same_processor
   miss_is (Some i) = missed_is (expected_by program i (s.processors p)) (s.processors p).seen
 
-  abbrev drains : SourceProcessor → List PendingStore → SourceState
-  drains c stores = record { numbers = written_out (take 1 stores) s.numbers; outputs = s.outputs; processors = put_at s.processors p (record c { pending = drop 1 stores }) }
+  -- what an event does to its processor alone
+  alone_is : (x : SourceProcessor) → after p (alone x s.numbers) s ≡ with_processor p x s
+  alone_is x = λ d. record { numbers = s.numbers; outputs = append-nil s.outputs d; processors = put_at s.processors p x }
 
-  drained_is : (stores : List PendingStore) → (s.processors p).pending ≡ stores → drained program p stores s ≡ drains (s.processors p) stores
+  drained_is : (stores : List PendingStore) → (s.processors p).pending ≡ stores
+      → after p (record { processor = record (s.processors p) { pending = drop 1 stores }; numbers = written_out (take 1 stores) s.numbers; output = None }) s ≡ drained program p stores s
   drained_is [] e =
-      same_processor ∙ ap (λ (c : SourceProcessor). with_processor p c s) (λ d. record (s.processors p) { pending = e d })
-  drained_is (store ∷ stores) e = refl
+      alone_is (record (s.processors p) { pending = [] }) ∙ ap (λ (c : SourceProcessor). with_processor p c s) (λ d. record (s.processors p) { pending = sym e d }) ∙ sym same_processor
+  drained_is (store ∷ stores) e = λ d. record { numbers = element_set store.global store.element store.number s.numbers; outputs = append-nil s.outputs d; processors = put_at s.processors p (record (s.processors p) { pending = stores }) }
+
+event_is : (program : SourceProgram) (e : SourceEvent) (s : SourceState) → after (named_by e) (event_deed program e (s.processors (named_by e)) s.numbers) s ≡ source_event program e s
+event_is program (Act p) s = sym (act_is program p s (next_inst program (s.processors p)))
+event_is program (Look p) s = alone_is program p s (look_of program (s.processors p) (next_inst program (s.processors p)) s.numbers) ∙ sym (look_is program p s (next_inst program (s.processors p)))
+event_is program (Miss p) s = alone_is program p s (miss_of program (s.processors p) (next_inst program (s.processors p))) ∙ sym (miss_is program p s (next_inst program (s.processors p)))
+event_is program (Drain p) s = drained_is program p s (s.processors p).pending refl
 
 -- ---- the machine
 module _ (m : MachineState) (p : ℕ) (c : ProcessorState) (within : p < length m.processors) (is : c ≡ slice_index_or m.processors p c) where
@@ -91,37 +99,12 @@ module _ (m : MachineState) (p : ℕ) (c : ProcessorState) (within : p < length 
   moves : (new : ProcessorState) (s : SourceProcessor) → processor_of new ≡ s → processors_of (slice_set m.processors p new) ≡ put s
   moves new s e = processors_set m.processors p new within ∙ ap put e
 
-  pub acted : (program : SourceProgram) (new : ProcessorState) (globals : List ArrayState) (output : Option ℕ) → program ≡ m.program → Does (act_deed program (processor_of c) (next_inst program (processor_of c)) (cells_of m.globals)) new globals output
-      → record { numbers = cells_of globals; outputs = m.outputs ++ outputs_of p output; processors = processors_of (slice_set m.processors p new) } ≡ source_event m.program (Act p) (state_of m)
-  acted program new globals output e does =
-      let d : SourceProgram → SourceProcessor → Deed = λ q s. act_deed q s (next_inst q s) (cells_of m.globals) in
+  pub happened : (program : SourceProgram) (e : SourceEvent) (new : ProcessorState) (globals : List ArrayState) (output : Option ℕ) → program ≡ m.program → p ≡ named_by e → Does (event_deed program e (processor_of c) (cells_of m.globals)) new globals output
+      → record { numbers = cells_of globals; outputs = m.outputs ++ outputs_of p output; processors = processors_of (slice_set m.processors p new) } ≡ source_event m.program e (state_of m)
+  happened program e new globals output same name does =
+      let s = state_of m in
       (λ t. record { numbers = does.numbers t; outputs = m.outputs ++ outputs_of p (does.written t); processors = moves new _ does.processor t })
-      ∙ ap (λ (q : SourceProgram). after p (d q (processor_of c)) (state_of m)) e
-      ∙ ap (λ (s : SourceProcessor). after p (d m.program s) (state_of m)) (sym here)
-      ∙ sym (act_is m.program p (state_of m) (next_inst m.program (processors_of m.processors p)))
-
-  changes : (new : ProcessorState) (s : SourceProcessor) → processor_of new ≡ s → record { numbers = cells_of m.globals; outputs = m.outputs; processors = processors_of (slice_set m.processors p new) } ≡ with_processor p s (state_of m)
-  changes new s e = λ t. record { numbers = cells_of m.globals; outputs = m.outputs; processors = moves new s e t }
-
-  pub looks : (program : SourceProgram) (new : ProcessorState) → program ≡ m.program → processor_of new ≡ look_of program (processor_of c) (next_inst program (processor_of c)) (cells_of m.globals)
-      → record { numbers = cells_of m.globals; outputs = m.outputs; processors = processors_of (slice_set m.processors p new) } ≡ source_event m.program (Look p) (state_of m)
-  looks program new e f =
-      changes new _ f
-      ∙ ap (λ (q : SourceProgram). with_processor p (look_of q (processor_of c) (next_inst q (processor_of c)) (cells_of m.globals)) (state_of m)) e
-      ∙ ap (λ (s : SourceProcessor). with_processor p (look_of m.program s (next_inst m.program s) (cells_of m.globals)) (state_of m)) (sym here)
-      ∙ sym (look_is m.program p (state_of m) (next_inst m.program (processors_of m.processors p)))
-
-  pub misses : (program : SourceProgram) (new : ProcessorState) → program ≡ m.program → processor_of new ≡ miss_of program (processor_of c) (next_inst program (processor_of c))
-      → record { numbers = cells_of m.globals; outputs = m.outputs; processors = processors_of (slice_set m.processors p new) } ≡ source_event m.program (Miss p) (state_of m)
-  misses program new e f =
-      changes new _ f
-      ∙ ap (λ (q : SourceProgram). with_processor p (miss_of q (processor_of c) (next_inst q (processor_of c))) (state_of m)) e
-      ∙ ap (λ (s : SourceProcessor). with_processor p (miss_of m.program s (next_inst m.program s)) (state_of m)) (sym here)
-      ∙ sym (miss_is m.program p (state_of m) (next_inst m.program (processors_of m.processors p)))
-
-  pub drains_to : (new : ProcessorState) (globals : List ArrayState) → processor_of new ≡ record (processor_of c) { pending = drop 1 (processor_of c).pending } → cells_of globals ≡ written_out (take 1 (processor_of c).pending) (cells_of m.globals)
-      → record { numbers = cells_of globals; outputs = m.outputs; processors = processors_of (slice_set m.processors p new) } ≡ source_event m.program (Drain p) (state_of m)
-  drains_to new globals f g =
-      (λ t. record { numbers = g t; outputs = m.outputs; processors = moves new _ f t })
-      ∙ ap (λ (s : SourceProcessor). drains m.program p (state_of m) s s.pending) (sym here)
-      ∙ sym (drained_is m.program p (state_of m) (processors_of m.processors p).pending refl)
+      ∙ ap (λ (q : SourceProgram). after p (event_deed q e (processor_of c) (cells_of m.globals)) s) same
+      ∙ ap (λ (x : SourceProcessor). after p (event_deed m.program e x (cells_of m.globals)) s) (sym here)
+      ∙ ap (λ (q : ℕ). after q (event_deed m.program e (s.processors q) s.numbers) s) name
+      ∙ event_is m.program e s

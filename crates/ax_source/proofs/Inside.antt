@@ -1,7 +1,7 @@
 -- Pointers of instructions that lie inside their objects.
-use Rattle.std.proofs.Common.{◌≡◌, ℕ, zero, suc, ◌+◌, ◌<◌, Bool, true, false, ◌&&◌, ◌||◌, not, List, [], ◌∷◌, ◌++◌, Option, Some, None, IfSome, IsTrue, length, drop, refl, sym, ap, ◌∙◌, subst, arith}
-use Rattle.std.specs.Prelude.{slice_get, slice_index_or}
-use Rattle.std.specs.List.{flat_map, list_all, list_any}
+use Rattle.std.proofs.Common.{◌≡◌, ℕ, zero, suc, ◌+◌, ◌<◌, Bool, true, false, ◌||◌, not, List, [], ◌∷◌, Option, Some, None, IfSome, IsTrue, length, drop, refl, sym, ap, ◌∙◌, subst, arith}
+use Rattle.std.specs.Prelude.{slice_index_or}
+use Rattle.std.specs.List.{list_all}
 use Rattle.std.proofs.lemmas.Bool.{and_parts}
 use Rattle.ax_ir.specs.declared.operand.Addr.{Addr}
 use Rattle.ax_ir.specs.declared.operand.Arg.{Arg}
@@ -14,12 +14,12 @@ use Rattle.ax_ops.specs.declared.routine.RoutineName.{RoutineName}
 use Rattle.ax_ops.specs.Routine.{routine_named}
 use Rattle.ax_layout.specs.SourceAccess.{Access, ObjectOperation, Reply}
 use Rattle.ax_layout.specs.SourceCalls.{RoutineKind, SizedLoad, SizedStore, SizedUpdate, SizedCompare, GenericLoad, GenericStore, GenericExchange, GenericCompare, IsLockFree, call_of, kind_of, pointer_at}
-use Rattle.ax_layout.specs.SourceInstructions.{access_of, is_inside, is_unreachable, pointers_of, pointers_of_arg, routine_access, traps}
+use Rattle.ax_layout.specs.SourceInstructions.{access_of, is_inside, is_unreachable, pointers_of, routine_access, traps}
 use Rattle.ax_layout.specs.SourceState.{Pointer}
-use Rattle.ax_source.specs.Accesses.{IsAnswerable, IsPerformable, is_answerable, is_element_of}
+use Rattle.ax_source.specs.Accesses.{IsPerformable, is_answerable, is_element_of}
 use Rattle.ax_source.specs.Calls.{has_pointers, is_pointer_at, routine_has_pointers}
 use Rattle.ax_source.specs.ProcessorState.{ProcessorState, state_of}
-use Rattle.ax_source.specs.Instructions.{any_outside, are_outside}
+use Rattle.ax_source.specs.Instructions.{any_outside}
 use Rattle.ax_source.specs.Runnable.{is_narrow_addr, is_narrow_arg, is_narrow_inst}
 
 drop_next : (args : List Arg) (k j : ℕ) (a d : Arg) → j ≡ k + 1 → k < length args → a ≡ slice_index_or args k d → drop k args ≡ a ∷ drop j args

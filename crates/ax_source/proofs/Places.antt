@@ -1,16 +1,14 @@
 -- Where an instruction stands in its function.
-use Rattle.std.proofs.Common.{◌≡◌, ℕ, zero, suc, ◌+◌, ◌<◌, ◌≤◌, List, [], ◌∷◌, ◌++◌, Option, Some, None, IsSome, IfSome, length, refl, sym, ap, ◌∙◌, subst, add-one, arith}
+use Rattle.std.proofs.Common.{◌≡◌, ℕ, zero, suc, ◌+◌, ◌<◌, List, [], ◌∷◌, ◌++◌, Option, Some, None, IsSome, IfSome, length, refl, sym, ap, ◌∙◌, arith}
 use Rattle.std.specs.Prelude.{slice_get, slice_index_or, option_copied, is_some}
 use Rattle.std.specs.List.{flat_map}
-use Rattle.std.proofs.lemmas.Option.{slice_get_within}
 use Rattle.std.proofs.lemmas.Grind.{common_steps}
 use Rattle.std.specs.Borrow.{Bor}
 use Rattle.ax_ir.specs.declared.inst.Inst.{Inst}
 use Rattle.ax_ir.specs.declared.module.Block.{Block}
-use Rattle.ax_ir.specs.declared.module.Function.{Function}
 use Rattle.ax_layout.specs.SourceEvent.{inst_at, number_of_next}
 use Rattle.ax_layout.specs.SourceInstructions.{first_number, insts_of_block}
-use Rattle.ax_layout.specs.SourcePointers.{blocks_in, blocks_of, insts_of}
+use Rattle.ax_layout.specs.SourcePointers.{blocks_of}
 use Rattle.ax_source.proofs.Narrow.{inst_narrow}
 use Rattle.ax_source.specs.ProcessorState.{ProcessorState, IsFound, IsSound, Stands, insts_in, starts_from, state_of}
 

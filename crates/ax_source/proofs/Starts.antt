@@ -1,6 +1,6 @@
 -- What a machine starts with.
-use Rattle.std.proofs.Common.{◌≡◌, ℕ, zero, suc, ◌+◌, ◌<◌, ◌≤◌, Bool, true, false, ◌&&◌, ◌||◌, List, [], ◌∷◌, ◌++◌, Option, Some, None, IsTrue, length, map, take, drop, replicate, refl, sym, ap, ◌∙◌, ⊎_elim, append_assoc, append-nil, arith}
-use Rattle.std.specs.Prelude.{slice_get, slice_index, slice_index_or, nat_eq, if◌then◌else◌}
+use Rattle.std.proofs.Common.{◌≡◌, ℕ, zero, suc, ◌+◌, ◌<◌, true, ◌||◌, List, [], ◌∷◌, ◌++◌, Some, IsTrue, length, map, drop, replicate, refl, sym, ap, ◌∙◌, ⊎_elim, arith}
+use Rattle.std.specs.Prelude.{slice_get, slice_index, slice_index_or, nat_eq}
 use Rattle.std.specs.List.{flat_map, list_all}
 use Rattle.std.proofs.lemmas.Bool.{and_parts, cases_lt}
 use Rattle.std.proofs.lemmas.Bool.Decides.{nat_tests}
@@ -12,14 +12,14 @@ use Rattle.ax_ir.specs.declared.module.Global.{Global}
 use Rattle.ax_ir.specs.declared.module.Module.{Module}
 use Rattle.ax_ir.specs.declared.operand.Operand.{Operand}
 use Rattle.ax_ir.specs.declared.types.Ty.{Ty}
-use Rattle.ax_layout.specs.SourcePointers.{Elements, elements_of_alloca, elements_of_global}
+use Rattle.ax_layout.specs.SourcePointers.{elements_of_alloca, elements_of_global}
 use Rattle.ax_layout.specs.SourceRun.{constant_of, constants_of, first_numbers}
 use Rattle.ax_layout.specs.SourceState.{Number}
 use Rattle.ax_layout.specs.SourceValues.{operand_of}
 use Rattle.ax_source.specs.Memories.{initial_array, initial_cells, zeros_of}
 use Rattle.ax_source.specs.ProcessorState.{starts_from}
 use Rattle.ax_source.specs.Runnable.{is_narrow, is_narrow_global}
-use Rattle.ax_source.specs.Shapes.{ArrayState, cells_of, no_array, shape_of, shapes_of}
+use Rattle.ax_source.specs.Shapes.{cells_of, shapes_of}
 
 no_number : (n k : ℕ) → slice_index (replicate n 0) k ≡ 0
 no_number n k = ⊎_elim (λ h. get_or-replicate n k 0 0 h) (λ h. grind (arith, common_steps)) (cases_lt k n)

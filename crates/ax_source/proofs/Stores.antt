@@ -1,12 +1,8 @@
 -- Lists of stores that wait.
-use Rattle.std.proofs.Common.{◌≡◌, ℕ, zero, suc, ◌+◌, ◌<◌, ◌≤◌, Bool, true, false, ◌&&◌, List, [], ◌∷◌, ◌++◌, All, length, take, drop, refl, sym, ap, ◌∙◌, arith}
+use Rattle.std.proofs.Common.{◌≡◌, ℕ, zero, suc, ◌+◌, ◌<◌, ◌≤◌, ◌&&◌, List, [], ◌∷◌, ◌++◌, length, drop, refl, sym, ap, ◌∙◌, arith}
 use Rattle.std.specs.Prelude.{nat_eq, if◌then◌else◌, slice_index_or}
-use Rattle.std.proofs.Math.Seq.{drop-cons}
-use Rattle.ax_layout.specs.SourcePointers.{Elements}
 use Rattle.ax_layout.specs.SourceAccess.{element_set, newest, written_out}
 use Rattle.ax_layout.specs.SourceState.{PendingStore}
-use Rattle.ax_source.specs.PendingState.{HaveCells}
-use Rattle.ax_source.specs.Shapes.{IsCell}
 
 drop_next : (stores : List PendingStore) (k j : ℕ) (d : PendingStore) → j ≡ k + 1 → k < length stores → drop k stores ≡ slice_index_or stores k d ∷ drop j stores
 drop_next (s ∷ stores) zero j d e h = let f : j ≡ suc zero = omega arith in rw f refl

@@ -1,8 +1,9 @@
 -- What a machine keeps over an event.
-use Rattle.std.proofs.Common.{◌≡◌, ℕ, ◌+◌, ◌-◌, ◌≤◌, ◌<◌, true, List, All, length, refl, sym, ap, ◌∙◌, subst, arith}
-use Rattle.std.specs.Prelude.{slice_index_or, slice_set}
+use Rattle.std.proofs.Common.{◌≡◌, ℕ, ◌+◌, ◌-◌, ◌≤◌, ◌<◌, List, All, length, sym, ap, ◌∙◌, subst, arith, suc, [], ◌∷◌, ◌++◌, ◌^◌, Option, Some, None}
+use Rattle.std.specs.Prelude.{slice_index_or, slice_set, IfSome}
 use Rattle.std.proofs.lemmas.List.Elements.{All-set}
 use Rattle.ax_target.specs.Targets.{is_buffered}
+use Rattle.ax_layout.specs.SourceEvent.{outputs_of}
 use Rattle.ax_layout.specs.SourceState.{SourceProgram}
 use Rattle.ax_source.specs.Accesses.{HasRoom}
 use Rattle.ax_source.specs.MachineState.{Belongs, IsWhole, MachineState}
@@ -33,3 +34,12 @@ module _ (m : MachineState) (p : ℕ) (c : ProcessorState) (h : IsWhole m) (with
         globals = shapes ∙ h.globals;
         processors = All-set (Belongs m.program (m.room - 1)) m.processors p new belongs_now (λ k d l. later _ (h.processors k d l));
       }
+
+-- ---- numbers that are written out have 64 bits
+last_word : (outs : List (ℕ × ℕ)) (p n : ℕ) → All (λ (out : ℕ × ℕ). out.1 < 2 ^ 64) (outs ++ (p, n) ∷ []) → n < 2 ^ 64
+last_word [] p n h = h 0 (p, n) (omega arith)
+last_word (o ∷ outs) p n h = last_word outs p n (λ k d lt. h (suc k) d (omega (arith, lt)))
+
+pub word : (outs : List (ℕ × ℕ)) (p : ℕ) (output : Option ℕ) → All (λ (out : ℕ × ℕ). out.1 < 2 ^ 64) (outs ++ outputs_of p output) → IfSome output (λ n. n < 2 ^ 64)
+word outs p None h = tt
+word outs p (Some n) h = last_word outs p n h

@@ -1,12 +1,11 @@
 -- Lists as functions, after a write.
-use Rattle.std.proofs.Common.{◌≡◌, ℕ, zero, suc, ◌<◌, Bool, true, false, List, [], ◌∷◌, ◌++◌, Option, Some, None, length, map, replicate, refl, sym, ap, ◌∙◌, arith}
+use Rattle.std.proofs.Common.{◌≡◌, ℕ, zero, suc, ◌<◌, Bool, true, false, List, [], ◌∷◌, length, replicate, refl, sym, ap, ◌∙◌, arith}
 use Rattle.std.specs.Prelude.{slice_index_or, slice_set, slice_index, nat_eq, if◌then◌else◌}
 use Rattle.std.proofs.lemmas.Bool.Decides.{nat_tests}
-use Rattle.std.proofs.lemmas.Grind.{common_steps}
 use Rattle.std.proofs.Math.ListN.{length-set}
 use Rattle.ax_layout.specs.SourcePointers.{Elements}
 use Rattle.ax_layout.specs.SourceAccess.{element_set, put_at}
-use Rattle.ax_layout.specs.SourceState.{SourceValue, Number}
+use Rattle.ax_layout.specs.SourceState.{Number}
 use Rattle.ax_source.specs.declared.value.Value.{Value}
 use Rattle.ax_source.specs.declared.value.Value.TheVariants as value
 use Rattle.ax_source.specs.Values.{value_of}

@@ -3,7 +3,6 @@ use Rattle.std.specs.Prelude.{ℕ, Bool, true, false, ◌&&◌, List, Option, So
 use Rattle.ax_ir.specs.declared.operand.Arg.{Arg}
 use Rattle.ax_ir.specs.declared.operand.Arg.TheVariants as arg
 use Rattle.ax_ops.specs.declared.routine.RoutineName.{RoutineName}
-use Rattle.ax_ops.specs.Routine.{routine_named}
 use Rattle.ax_layout.specs.SourceCalls.{RoutineKind, SizedLoad, SizedStore, SizedUpdate, SizedCompare, GenericLoad, GenericStore, GenericExchange, GenericCompare, IsLockFree, kind_of}
 
 abbrev pub is_pointer : Option Arg → Bool

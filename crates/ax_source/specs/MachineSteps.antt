@@ -1,27 +1,15 @@
--- The source state that a machine stands for.
-use Rattle.std.specs.Prelude.{◌≡◌, ◌<◌, ◌≤◌, ℕ, true, false, nat_eq, if◌then◌else◌, List, Option, Some, None, length, slice_get}
+-- What an event does to a machine.
+pub use Rattle.ax_source.specs.MachineState.{processor_at, processors_of, state_of}
+use Rattle.std.specs.Prelude.{◌≡◌, ◌<◌, ℕ, false, nat_eq, if◌then◌else◌, Option, Some, None, length, drop, take}
 use Rattle.ax_ir.specs.declared.inst.Inst.{Inst}
 use Rattle.ax_ops.specs.declared.source.SourceEvent.{SourceEvent}
 use Rattle.ax_ops.specs.declared.source.SourceEvent.TheVariants.{Act, Look, Miss, Drain}
-use Rattle.ax_layout.specs.SourceAccess.{gets}
-use Rattle.ax_layout.specs.SourceEvent.{expected_by, number_of_next, seen_by}
+use Rattle.ax_layout.specs.SourceAccess.{Deed, gets, written_out}
+use Rattle.ax_layout.specs.SourceEvent.{expected_by, next_inst, number_of_next, seen_by}
 use Rattle.ax_layout.specs.SourcePointers.{elements_of}
-use Rattle.ax_layout.specs.SourceRun.{first_processor}
-use Rattle.ax_layout.specs.SourceState.{Pair, Shared, SourceProcessor, SourceProgram, SourceState}
+use Rattle.ax_layout.specs.SourceState.{Pair, Shared, SourceProcessor, SourceProgram}
+use Rattle.ax_source.specs.Accesses.{act_deed}
 use Rattle.ax_source.specs.MachineState.{MachineState}
-use Rattle.ax_source.specs.ProcessorState.{ProcessorState, state_of as processor_of}
-use Rattle.ax_source.specs.Shapes.{cells_of}
-
--- there is none past the last
-abbrev pub processor_at : Option ProcessorState → SourceProcessor
-processor_at None = first_processor None
-processor_at (Some c) = processor_of c
-
-abbrev pub processors_of : List ProcessorState → ℕ → SourceProcessor
-processors_of cs p = processor_at (slice_get cs p)
-
-abbrev pub state_of : MachineState → SourceState
-state_of m = record { numbers = cells_of m.globals; outputs = m.outputs; processors = processors_of m.processors }
 
 -- the processor that an event names
 abbrev pub named_by : SourceEvent → ℕ
@@ -57,3 +45,13 @@ missed_at k (Some expected) (Some seen) s = if nat_eq expected seen then gets k 
 abbrev pub miss_of : SourceProgram → SourceProcessor → Option Inst → SourceProcessor
 miss_of program s None = s
 miss_of program s (Some i) = missed_at (number_of_next program s) (expected_by program i s) s.seen s
+
+-- what an event does to the processor that it names, to the objects, and what it writes out
+abbrev pub alone : SourceProcessor → (ℕ → ℕ → ℕ) → Deed
+alone s numbers = record { processor = s; numbers = numbers; output = None }
+
+abbrev pub event_deed : SourceProgram → SourceEvent → SourceProcessor → (ℕ → ℕ → ℕ) → Deed
+event_deed program (Act p) s numbers = act_deed program s (next_inst program s) numbers
+event_deed program (Look p) s numbers = alone (look_of program s (next_inst program s) numbers) numbers
+event_deed program (Miss p) s numbers = alone (miss_of program s (next_inst program s)) numbers
+event_deed program (Drain p) s numbers = record { processor = record s { pending = drop 1 s.pending }; numbers = written_out (take 1 s.pending) numbers; output = None }

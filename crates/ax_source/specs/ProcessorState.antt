@@ -4,7 +4,7 @@ use Rattle.ax_ir.specs.declared.inst.Inst.{Inst}
 use Rattle.ax_ir.specs.declared.module.Block.{Block}
 use Rattle.ax_ops.specs.declared.source.SourceStatus.{SourceStatus}
 use Rattle.ax_layout.specs.SourceEvent.{inst_at}
-use Rattle.ax_layout.specs.SourcePointers.{blocks_of, insts_of}
+use Rattle.ax_layout.specs.SourcePointers.{insts_of}
 use Rattle.ax_layout.specs.SourceState.{SourceProcessor, SourceProgram}
 use Rattle.ax_source.specs.declared.value.Value.{Value}
 use Rattle.ax_source.specs.PendingState.{PendingState, HaveCells}

@@ -1,8 +1,8 @@
 -- What the source machine asks of a module.
-use Rattle.std.specs.Prelude.{◌≡◌, ◌≤◌, ℕ, Bool, true, ◌&&◌, ◌||◌, nat_eq, IsTrue, All, List, Option, Some, None, length, nat_le, nat_lt, slice_get}
+use Rattle.std.specs.Prelude.{◌≡◌, ◌≤◌, ℕ, Bool, true, ◌&&◌, ◌||◌, nat_eq, IsTrue, Option, Some, None, length, nat_le}
 use Rattle.std.specs.List.{list_all}
 use Rattle.ax_ir.specs.declared.inst.Inst.{Inst}
-use Rattle.ax_ir.specs.declared.inst.Inst.TheVariants.{Bin, Icmp, Select, Convert, Phi, Ret, Alloca, Gep, Load, LoadAtomic, Store, StoreAtomic, Cmpxchg, Rmw, Extract, Call}
+use Rattle.ax_ir.specs.declared.inst.Inst.TheVariants.{Bin, Icmp, Select, Convert, Phi, Alloca, Gep, Load, LoadAtomic, Store, StoreAtomic, Cmpxchg, Rmw, Call}
 use Rattle.ax_ir.specs.declared.module.Block.{Block}
 use Rattle.ax_ir.specs.declared.module.Function.{Function}
 use Rattle.ax_ir.specs.declared.module.Global.{Global}

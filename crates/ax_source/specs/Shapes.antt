@@ -1,6 +1,5 @@
 -- What contracts see of arrays of numbers and of the results of instructions.
-use Rattle.std.specs.Prelude.{◌<◌, ℕ, List, [], ◌∷◌, Some, length, map, slice_get, slice_index, slice_index_or}
-use Rattle.ax_ir.specs.declared.inst.Inst.{Inst}
+use Rattle.std.specs.Prelude.{◌<◌, ℕ, List, [], Some, length, map, slice_index, slice_index_or}
 use Rattle.ax_ir.specs.declared.module.Module.{Module}
 use Rattle.ax_ir.specs.declared.types.Ty.{Ty}
 use Rattle.ax_ir.specs.declared.types.Ty.TheVariants.{I8}

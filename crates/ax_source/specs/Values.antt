@@ -1,5 +1,4 @@
 -- What the values of a processor stand for.
-use Rattle.std.specs.Prelude.{ℕ, Bool}
 use Rattle.ax_source.specs.declared.value.Object.{Object}
 use Rattle.ax_source.specs.declared.value.Object.TheVariants as object
 use Rattle.ax_source.specs.declared.value.Pointer.{Pointer}

@@ -5,6 +5,7 @@ mod access;
 mod arrays;
 mod calls;
 mod deeds;
+mod happen;
 mod instructions;
 pub mod laws;
 mod looks;

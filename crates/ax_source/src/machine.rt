@@ -1,6 +1,6 @@
 //! The source machine: one source event at a time, without taking memory.
 
-ghost use Rattle.std.specs.Prelude.{◌≡◌, ◌+◌, ◌++◌, ◌<◌, ◌≤◌, length, map, vec_len, IfOk};
+ghost use Rattle.std.specs.Prelude.{◌≡◌, ◌+◌, ◌++◌, ◌<◌, ◌≤◌, ◌^◌, length, map, vec_len, IfOk, IfSome};
 ghost use Rattle.ax_layout.specs.SourceEvent.{outputs_of, source_event};
 ghost use Rattle.ax_layout.specs.SourceRun.{source_start};
 ghost use Rattle.ax_source.specs.MachineSteps.{HasElement, Stays, named_by, state_of};
@@ -15,6 +15,7 @@ use crate::processor::Processor;
 use ax_check::Accepted;
 use ax_ops::{SourceEvent, SourceStatus};
 use ax_target::buffered;
+use ax_typed::numbers_are_typed;
 use std::alloc::{AllocError, Global};
 use std::marker::Model;
 
@@ -27,21 +28,23 @@ pub struct Machine<'a> {
     program: &'a Accepted,
     room: u64,
     globals: Arrays,
-    outputs: Vec<(u8, u128)>,
+    outputs: Vec<(u8, u64)>,
     processors: Vec<Processor<'a>>,
 }
 
 impl<'a> Model for Machine<'a> {
     ghost use Rattle.std.specs.Prelude.{◌+◌, ◌≤◌};
     ghost use Rattle.std.specs.Vec.{vec_len, vec_capacity};
-    ghost use Rattle.ax_source.specs.MachineState.{MachineState, IsWhole};
+    ghost use Rattle.ax_source.specs.MachineState.{MachineState, IsWhole, state_of};
+    ghost use Rattle.ax_typed.specs.Typed.{IsTyped};
 
     ghost Value = { MachineState };
 
     ghost view = { λ m. record { program = m.program.now; room = m.room; globals = m.globals; outputs = m.outputs.items; processors = m.processors.items } };
 
     ghost invariant = { λ m. (vec_len m.outputs + m.room ≤ vec_capacity m.outputs)
-        × IsWhole (record { program = m.program.now; room = m.room; globals = m.globals; outputs = m.outputs.items; processors = m.processors.items }) };
+        × IsWhole (record { program = m.program.now; room = m.room; globals = m.globals; outputs = m.outputs.items; processors = m.processors.items })
+        × IsTyped m.program.now.source (state_of (record { program = m.program.now; room = m.room; globals = m.globals; outputs = m.outputs.items; processors = m.processors.items })) };
 }
 
 /// A processor for each entry, with memory for so many events.
@@ -66,15 +69,26 @@ fn processors<'a>(
     Ok(processors)
 }
 
-/// Writes a number out, if there is one.
-fn write_out(outputs: &mut Vec<(u8, u128)>, p: u8, number: Option<u128>)
-    requires { vec_len outputs.old < vec_capacity outputs.old }
+/// The processor that an event names.
+fn named_by(e: SourceEvent) -> u8
+    ensures { result ≡ named_by e }
+{
+    match e {
+        SourceEvent::Act(p) | SourceEvent::Look(p) | SourceEvent::Miss(p) | SourceEvent::Drain(p) =>
+            p,
+    }
+}
+
+/// Writes a number of 64 bits out, if there is one.
+fn write_out(outputs: &mut Vec<(u8, u64)>, p: u8, number: Option<u128>)
+    requires word { IfSome number (λ n. n < 2 ^ 64) }
+    requires room { vec_len outputs.old < vec_capacity outputs.old }
     ensures items { outputs.new.items ≡ outputs.old.items ++ outputs_of p number }
     ensures len { vec_len outputs.new ≤ vec_len outputs.old + 1 }
     ensures capacity { vec_capacity outputs.new ≡ vec_capacity outputs.old }
 {
     if let Some(number) = number {
-        outputs.push_reserved((p, number));
+        outputs.push_reserved((p, number as u64));
     }
 }
 
@@ -95,6 +109,7 @@ impl<'a> Machine<'a> {
     {
         program.is_without_faults();
         accepted_modules_are_runnable();
+        numbers_are_typed();
         let globals = initial_arrays(alloc, program.module().globals.as_slice())?;
         let outputs = Vec::with_capacity(alloc, events as usize)?;
         let processors = processors(alloc, program, entries, events)?;
@@ -115,7 +130,7 @@ impl<'a> Machine<'a> {
     }
 
     /// The numbers that processors wrote out, each with its processor, in order.
-    pub fn outputs(&self) -> &[(u8, u128)]
+    pub fn outputs(&self) -> &[(u8, u64)]
         ensures { result.now ≡ (state_of self.now).outputs }
     {
         self.outputs.as_slice()
@@ -137,55 +152,6 @@ impl<'a> Machine<'a> {
         self.processors[p as usize].status()
     }
 
-    fn act(&mut self, p: u8)
-        requires room { 1 ≤ self.old.room }
-        requires processor { p < length self.old.processors }
-        ensures state { state_of self.new ≡ source_event self.old.program (SourceEvent.Act p) (state_of self.old) }
-        ensures room { self.new.room + 1 ≡ self.old.room }
-        ensures stays { Stays self.old self.new }
-    {
-        let processor = &mut self.processors[p as usize];
-        let output = processor.act(&mut self.globals);
-        write_out(&mut self.outputs, p, output);
-        self.room -= 1;
-    }
-
-    fn look(&mut self, p: u8)
-        requires room { 1 ≤ self.old.room }
-        requires processor { p < length self.old.processors }
-        ensures state { state_of self.new ≡ source_event self.old.program (SourceEvent.Look p) (state_of self.old) }
-        ensures room { self.new.room + 1 ≡ self.old.room }
-        ensures stays { Stays self.old self.new }
-    {
-        let processor = &mut self.processors[p as usize];
-        processor.look(&self.globals);
-        self.room -= 1;
-    }
-
-    fn miss(&mut self, p: u8)
-        requires room { 1 ≤ self.old.room }
-        requires processor { p < length self.old.processors }
-        ensures state { state_of self.new ≡ source_event self.old.program (SourceEvent.Miss p) (state_of self.old) }
-        ensures room { self.new.room + 1 ≡ self.old.room }
-        ensures stays { Stays self.old self.new }
-    {
-        let processor = &mut self.processors[p as usize];
-        processor.miss();
-        self.room -= 1;
-    }
-
-    fn drain(&mut self, p: u8)
-        requires room { 1 ≤ self.old.room }
-        requires processor { p < length self.old.processors }
-        ensures state { state_of self.new ≡ source_event self.old.program (SourceEvent.Drain p) (state_of self.old) }
-        ensures room { self.new.room + 1 ≡ self.old.room }
-        ensures stays { Stays self.old self.new }
-    {
-        let processor = &mut self.processors[p as usize];
-        processor.drain(&mut self.globals);
-        self.room -= 1;
-    }
-
     /// One event of a processor, which uses up the room of one. It takes no memory.
     pub fn step(&mut self, e: SourceEvent)
         requires room { 1 ≤ self.old.room }
@@ -194,11 +160,12 @@ impl<'a> Machine<'a> {
         ensures room { self.new.room + 1 ≡ self.old.room }
         ensures stays { Stays self.old self.new }
     {
-        match e {
-            SourceEvent::Act(p) => self.act(p),
-            SourceEvent::Look(p) => self.look(p),
-            SourceEvent::Miss(p) => self.miss(p),
-            SourceEvent::Drain(p) => self.drain(p),
-        }
+        self.program.is_without_faults();
+        numbers_are_typed();
+        let p = named_by(e);
+        let processor = &mut self.processors[p as usize];
+        let output = processor.happen(&mut self.globals, e);
+        write_out(&mut self.outputs, p, output);
+        self.room -= 1;
     }
 }

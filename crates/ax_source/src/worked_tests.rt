@@ -30,7 +30,7 @@ struct Case {
     target: Target,
     entries: &'static [u32],
     schedule: &'static str,
-    outputs: &'static [(u8, u128)],
+    outputs: &'static [(u8, u64)],
     objects: &'static [(u32, u64, u128)],
     statuses: &'static [SourceStatus],
 }
@@ -438,7 +438,7 @@ fn play(rt: &impl Abort, machine: &mut Machine, processors: usize, events: &[Sou
     }
 }
 
-fn has_outputs<'b>(machine: &'b Machine, expected: &'b [(u8, u128)]) -> bool {
+fn has_outputs<'b>(machine: &'b Machine, expected: &'b [(u8, u64)]) -> bool {
     machine.outputs() == expected
 }
 

@@ -1,16 +1,13 @@
-use Rattle.std.proofs.Common.{◌≡◌, ℕ, List, length, map, replicate, ap, ◌∙◌, sym, subst}
+use Rattle.std.proofs.Common.{List, length, map, replicate, ap, ◌∙◌, sym, subst}
 use Rattle.std.specs.List.{flat_map}
 use Rattle.std.proofs.lemmas.List.{length-map}
 use Rattle.ax_ir.specs.declared.module.Block.{Block}
 use Rattle.ax_ir.specs.declared.module.Module.{Module}
 use Rattle.ax_layout.specs.SourcePointers.{blocks_of, insts_of}
-use Rattle.ax_source.specs.declared.value.Value.{Value}
 use Rattle.ax_source.specs.declared.value.Value.TheVariants as value
 use Rattle.ax_source.specs.Beginnings.{begun}
 use Rattle.ax_source.specs.Memories.{zeros_of}
-use Rattle.ax_source.specs.PendingState.{PendingState}
-use Rattle.ax_source.specs.ProcessorState.{IsSound, ProcessorState, starts_from}
-use Rattle.ax_source.specs.Shapes.{ArrayState}
+use Rattle.ax_source.specs.ProcessorState.{IsSound, starts_from}
 use Rattle.ax_source.proofs.Begins.{begun_sound}
 use Rattle.ax_source.proofs.processor.Processor.begin.Goals as goal
 

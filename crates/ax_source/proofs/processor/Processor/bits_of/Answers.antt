@@ -1,4 +1,4 @@
-use Rattle.std.proofs.Common.{◌≤◌, ℕ, sym, ap, ◌∙◌, subst, arith}
+use Rattle.std.proofs.Common.{◌≤◌, ℕ, sym, ap, ◌∙◌, subst}
 use Rattle.ax_layout.specs.SourceValues.{type_bits}
 use Rattle.ax_source.specs.Values.{object_of}
 use Rattle.ax_source.proofs.Narrow.{elem_bits}

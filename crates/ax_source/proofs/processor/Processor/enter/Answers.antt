@@ -1,4 +1,4 @@
-use Rattle.std.proofs.Common.{◌≡◌, ◌≤◌, IsTrue, List, ap, sym, ◌∙◌, subst}
+use Rattle.std.proofs.Common.{◌≤◌, IsTrue, List, ap, sym, ◌∙◌, subst}
 use Rattle.std.specs.List.{list_all}
 use Rattle.ax_ir.specs.declared.inst.Inst.{Inst}
 use Rattle.ax_ir.specs.declared.module.Block.{Block}

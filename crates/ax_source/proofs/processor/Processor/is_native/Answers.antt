@@ -1,8 +1,8 @@
-use Rattle.std.proofs.Common.{◌≡◌, ℕ, ◌≤◌, sym, ap, ◌∙◌, subst, arith}
+use Rattle.std.proofs.Common.{ℕ, ◌≤◌, sym, ap, ◌∙◌, subst}
 use Rattle.ax_ir.specs.Types.{type_bytes}
 use Rattle.ax_layout.specs.Layout.{HasElement, LayoutState}
 use Rattle.ax_layout.specs.SourceState.{SourceProgram}
-use Rattle.ax_source.proofs.Natives.{HasPlace, has_place, native_is}
+use Rattle.ax_source.proofs.Natives.{has_place, native_is}
 use Rattle.ax_source.proofs.processor.Processor.is_native.Goals as goal
 
 pub address-address-requires : goal.address-address-requires

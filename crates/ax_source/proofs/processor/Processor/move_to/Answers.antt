@@ -1,4 +1,4 @@
-use Rattle.std.proofs.Common.{◌≡◌, length, ap, ◌∙◌, subst, arith}
+use Rattle.std.proofs.Common.{◌≡◌, length, ap, subst, arith}
 use Rattle.ax_layout.specs.SourcePointers.{blocks_of}
 use Rattle.ax_source.specs.ProcessorState.{ProcessorState, IsSound, state_of}
 use Rattle.ax_source.proofs.Blocks.{fits}

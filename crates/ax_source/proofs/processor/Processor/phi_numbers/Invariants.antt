@@ -1,5 +1,4 @@
-use Rattle.std.proofs.Common.{◌≡◌, ◌+◌, ◌++◌, drop, length}
-use Rattle.ax_layout.specs.SourceInstructions.{phi_count}
+use Rattle.std.proofs.Common.{◌≡◌, ◌++◌, drop}
 use Rattle.ax_source.specs.Phis.{phi_numbers}
 use Rattle.ax_source.specs.ProcessorState.{state_of}
 use Rattle.ax_source.proofs.processor.Processor.phi_numbers.Given as goal

@@ -1,4 +1,4 @@
-use Rattle.std.proofs.Common.{◌≡◌, ◌∙◌, ap, sym, subst, false, IsTrue, List}
+use Rattle.std.proofs.Common.{◌∙◌, ap, sym, subst, IsTrue, List}
 use Rattle.ax_ir.specs.declared.operand.Arg.{Arg}
 use Rattle.ax_ops.specs.Routine.{routine_named}
 use Rattle.ax_source.specs.Calls.{routine_has_pointers}

@@ -1,0 +1,12 @@
+pub mod Accesses
+pub mod Calls
+pub mod Deeds
+pub mod Entries
+pub mod Facts
+pub mod Objects
+pub mod Places
+pub mod Runs
+pub mod Pointers
+pub mod Sizes
+pub mod Standing
+pub mod Types
