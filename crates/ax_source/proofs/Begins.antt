@@ -17,6 +17,7 @@ use Rattle.ax_source.specs.Memories.{initial_array}
 use Rattle.ax_source.specs.ProcessorState.{IsSound, ProcessorState, state_of as processor_of}
 use Rattle.ax_source.specs.Runnable.{IsRunnable}
 use Rattle.ax_source.specs.Shapes.{ArrayState, shapes_of}
+use Rattle.ax_source.proofs.NewestStores.{counts_some}
 use Rattle.ax_source.proofs.Starts.{initial_numbers, initial_shapes, zeros_cells, zeros_shapes}
 use Rattle.ax_source.proofs.Writes.{no_results}
 
@@ -27,6 +28,7 @@ begun_sound program room f h = record {
   results = length-replicate (length (insts_of program.source f)) (value.Number 0);
   arrays = zeros_shapes (insts_of program.source f);
   pending = λ k d l. absurd (omega arith);
+  counts = counts_some room program.source.globals;
 }
 
 begun_is : (program : SourceProgram) (room f : ℕ) → processor_of (begun program room f) ≡ first_processor (Some f)

@@ -7,6 +7,7 @@ pub mod Events
 pub mod Inside
 pub mod Narrow
 pub mod Natives
+pub mod NewestStores
 pub mod Places
 pub mod SetTogether
 pub mod Starts

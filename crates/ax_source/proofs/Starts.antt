@@ -21,7 +21,7 @@ use Rattle.ax_source.specs.ProcessorState.{starts_from}
 use Rattle.ax_source.specs.Runnable.{is_narrow, is_narrow_global}
 use Rattle.ax_source.specs.Shapes.{cells_of, shapes_of}
 
-no_number : (n k : ℕ) → slice_index (replicate n 0) k ≡ 0
+pub no_number : (n k : ℕ) → slice_index (replicate n 0) k ≡ 0
 no_number n k = ⊎_elim (λ h. get_or-replicate n k 0 0 h) (λ h. grind (arith, common_steps)) (cases_lt k n)
 
 -- ---- allocas

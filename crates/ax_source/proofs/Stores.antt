@@ -1,7 +1,7 @@
 -- Lists of stores that wait.
-use Rattle.std.proofs.Common.{◌≡◌, ℕ, zero, suc, ◌+◌, ◌<◌, ◌≤◌, ◌&&◌, List, [], ◌∷◌, ◌++◌, length, drop, refl, sym, ap, ◌∙◌, arith}
-use Rattle.std.specs.Prelude.{nat_eq, if◌then◌else◌, slice_index_or}
-use Rattle.ax_layout.specs.SourceAccess.{element_set, newest, written_out}
+use Rattle.std.proofs.Common.{◌≡◌, ℕ, zero, suc, ◌+◌, ◌<◌, ◌≤◌, List, [], ◌∷◌, length, drop, refl, sym, ap, ◌∙◌, arith}
+use Rattle.std.specs.Prelude.{slice_index_or}
+use Rattle.ax_layout.specs.SourceAccess.{element_set, written_out}
 use Rattle.ax_layout.specs.SourceState.{PendingStore}
 
 drop_next : (stores : List PendingStore) (k j : ℕ) (d : PendingStore) → j ≡ k + 1 → k < length stores → drop k stores ≡ slice_index_or stores k d ∷ drop j stores
@@ -9,12 +9,6 @@ drop_next (s ∷ stores) zero j d e h = let f : j ≡ suc zero = omega arith in 
 drop_next (s ∷ stores) (suc k) zero d e h = absurd (omega arith)
 drop_next (s ∷ stores) (suc k) (suc j) d e h = drop_next stores k j d (omega arith) (omega arith)
 drop_next [] k j d e h = absurd (omega arith)
-
-pub newest_next : (g i n : ℕ) (stores : List PendingStore) (k j : ℕ) (s : PendingStore) → j ≡ k + 1 → k < length stores → s ≡ slice_index_or stores k s
-    → newest g i (drop k stores) n ≡ newest g i (drop j stores) (if nat_eq g s.global && nat_eq i s.element then s.number else n)
-newest_next g i n stores k j s e h is = ap (λ ss. newest g i ss n) (drop_next stores k j s e h) ∙ ap (λ (t : PendingStore). newest g i (drop j stores) (if nat_eq g t.global && nat_eq i t.element then t.number else n)) (sym is)
-
-pub ruleset newer = (newest_next)
 
 pub written_next : (numbers : ℕ → ℕ → ℕ) (stores : List PendingStore) (k j : ℕ) (s : PendingStore) → j ≡ k + 1 → k < length stores → s ≡ slice_index_or stores k s
     → written_out (drop k stores) numbers ≡ written_out (drop j stores) (element_set s.global s.element s.number numbers)
@@ -27,12 +21,5 @@ all_drained (s ∷ stores) zero h = absurd (omega arith)
 all_drained (s ∷ stores) (suc k) h = all_drained stores k (omega arith)
 
 pub ruleset written = (written_next, all_drained)
-
-pub drop_push : (stores : List PendingStore) (k : ℕ) (s : PendingStore) → k ≤ length stores → drop k (stores ++ s ∷ []) ≡ drop k stores ++ s ∷ []
-drop_push stores zero s h = refl
-drop_push [] (suc k) s h = absurd (omega arith)
-drop_push (t ∷ stores) (suc k) s h = drop_push stores k s (omega arith)
-
-pub ruleset appended = (drop_push)
 
 pub ruleset oldest = (written_next, all_drained)

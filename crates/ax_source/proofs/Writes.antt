@@ -12,7 +12,7 @@ use Rattle.ax_source.specs.Values.{value_of}
 use Rattle.ax_source.specs.Shapes.{ArrayState, IsCell, cells_of, no_array, shape_in, shape_of, shapes_of, values_of}
 
 -- ---- an element after a write
-or_set : {A : Type 0} (xs : List A) (k j : ℕ) (x d : A) → k < length xs → slice_index_or (slice_set xs k x) j d ≡ (if nat_eq j k then x else slice_index_or xs j d)
+pub or_set : {A : Type 0} (xs : List A) (k j : ℕ) (x d : A) → k < length xs → slice_index_or (slice_set xs k x) j d ≡ (if nat_eq j k then x else slice_index_or xs j d)
 or_set [] k j x d h = absurd (omega arith)
 or_set (y ∷ xs) zero zero x d h = refl
 or_set (y ∷ xs) zero (suc j) x d h = let e : false ≡ nat_eq (suc j) zero = grind (arith, nat_tests) in ap (λ t. if t then x else slice_index_or xs j d) e
@@ -21,7 +21,7 @@ or_set (y ∷ xs) (suc k) (suc j) x d h =
     let e : nat_eq j k ≡ nat_eq (suc j) (suc k) = grind (arith, nat_tests) in
     or_set xs k j x d (omega arith) ∙ ap (λ t. if t then x else slice_index_or xs j d) e
 
-moved : {A B : Type 0} (f : A → B) (t : Bool) (x y : A) → f (if t then x else y) ≡ (if t then f x else f y)
+pub moved : {A B : Type 0} (f : A → B) (t : Bool) (x y : A) → f (if t then x else y) ≡ (if t then f x else f y)
 moved f true x y = refl
 moved f false x y = refl
 
@@ -51,7 +51,7 @@ shapes_put [] r a e = refl
 shapes_put (b ∷ arrays) zero a e = ap (λ s. s ∷ shapes_of arrays) e
 shapes_put (b ∷ arrays) (suc r) a e = ap (λ ss. shape_of b ∷ ss) (shapes_put arrays r a e)
 
-applied : (t : Bool) (f g : ℕ → ℕ) (i : ℕ) → (if t then f else g) i ≡ (if t then f i else g i)
+pub applied : (t : Bool) (f g : ℕ → ℕ) (i : ℕ) → (if t then f else g) i ≡ (if t then f i else g i)
 applied true f g i = refl
 applied false f g i = refl
 

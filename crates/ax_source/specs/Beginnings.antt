@@ -6,6 +6,7 @@ use Rattle.ax_layout.specs.SourcePointers.{insts_of}
 use Rattle.ax_layout.specs.SourceState.{SourceProgram}
 use Rattle.ax_source.specs.declared.value.Value.TheVariants as value
 use Rattle.ax_source.specs.Memories.{zeros_of}
+use Rattle.ax_source.specs.PendingState.{counts_for}
 use Rattle.ax_source.specs.ProcessorState.{ProcessorState}
 
 -- a processor at the first instruction of a function
@@ -19,7 +20,7 @@ begun program room f = record {
   arrays = map zeros_of (insts_of program.source f);
   status = Running;
   seen = None;
-  waiting = record { stores = []; room = room };
+  waiting = record { stores = []; room = room; counts = counts_for room program.source.globals };
 }
 
 -- where the target has no buffers no store waits

@@ -6,6 +6,7 @@ pub mod Kinds
 pub mod MachineState
 pub mod MachineSteps
 pub mod Memories
+pub mod NewestStores
 pub mod PendingState
 pub mod Phis
 pub mod ProcessorState

@@ -7,7 +7,7 @@ use Rattle.ax_layout.specs.SourceEvent.{inst_at}
 use Rattle.ax_layout.specs.SourcePointers.{insts_of}
 use Rattle.ax_layout.specs.SourceState.{SourceProcessor, SourceProgram}
 use Rattle.ax_source.specs.declared.value.Value.{Value}
-use Rattle.ax_source.specs.PendingState.{PendingState, HaveCells}
+use Rattle.ax_source.specs.PendingState.{PendingState, HaveCells, counts_in}
 use Rattle.ax_source.specs.Runnable.{IsRunnable, is_narrow_inst}
 use Rattle.ax_source.specs.Shapes.{ArrayState, alloca_shapes, cells_of, global_shapes, shapes_of, values_of}
 
@@ -46,12 +46,13 @@ abbrev pub insts_in : Option Block → List Inst
 insts_in None = []
 insts_in (Some block) = block.insts
 
--- what every processor keeps: a result for each instruction of its function, an array for each alloca, and an element for each store that waits
+-- what every processor keeps: a result for each instruction of its function, an array for each alloca, an element for each store that waits, and where more may wait a place for each element of the globals
 pub record IsSound (c : ProcessorState) : Type 0 where
   pub runnable : IsRunnable c.program
   pub results : length c.results ≡ length (insts_of c.program.source c.function)
   pub arrays : shapes_of c.arrays ≡ alloca_shapes c.program.source c.function
   pub pending : HaveCells (global_shapes c.program.source) c.waiting.stores
+  pub counts : 0 < c.waiting.room → c.waiting.counts ≡ counts_in c.program.source.globals
 
 -- the program and the room for stores that wait stay
 pub record Kept (old new : ProcessorState) : Type 0 where

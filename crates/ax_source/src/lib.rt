@@ -11,6 +11,7 @@ pub mod laws;
 mod looks;
 pub mod machine;
 mod memory;
+mod newest_stores;
 mod operands;
 mod pending;
 mod phis;

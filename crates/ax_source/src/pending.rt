@@ -1,11 +1,13 @@
 //! The stores of a processor that wait.
 
-ghost use Rattle.std.specs.Prelude.{◌≡◌, ◌<◌, ◌-◌, ◌++◌, ◌∷◌, [], drop, take, IfOk};
+ghost use Rattle.std.specs.Prelude.{◌≡◌, ◌<◌, ◌-◌, ◌++◌, ◌∷◌, [], drop, take, slice_index, IfOk};
 ghost use Rattle.ax_layout.specs.SourceAccess.{newest, written_out};
 ghost use Rattle.ax_source.specs.Shapes.{cells_of, shapes_of};
-ghost use Rattle.ax_source.specs.PendingState.{HaveCells};
+ghost use Rattle.ax_source.specs.PendingState.{HaveCells, counts_for};
 
 use crate::arrays::Arrays;
+use crate::newest_stores::NewestStores;
+use ax_ir::module;
 use std::alloc::{AllocError, Global};
 use std::marker::Model;
 
@@ -41,44 +43,59 @@ impl Waiting {
 
 /// The stores that wait, the oldest first, and memory for so many more.
 ///
-/// Those before `head` wait no longer.
+/// Those before `head` wait no longer: the newest store to an element waits exactly where its place,
+/// which `newest` has, is above `head`.
 #[derive(Drop)]
 pub(crate) struct Pending {
     stores: Vec<Waiting>,
     head: usize,
     room: u64,
+    newest: NewestStores,
 }
 
 impl Model for Pending {
     ghost use Rattle.std.specs.Prelude.{◌+◌, ◌≤◌, drop};
     ghost use Rattle.std.specs.Vec.{vec_len, vec_capacity};
     ghost use Rattle.ax_source.specs.PendingState.{PendingState};
+    ghost use Rattle.ax_source.specs.NewestStores.{AreNewest, counts_of};
 
     ghost Value = { PendingState };
 
-    ghost view = { λ p. record { stores = drop p.head p.stores.items; room = p.room } };
+    ghost view = { λ p. record { stores = drop p.head p.stores.items; room = p.room; counts = counts_of p.newest } };
 
-    ghost invariant = { λ p. (p.head ≤ vec_len p.stores) × (vec_len p.stores + p.room ≤ vec_capacity p.stores) };
+    ghost invariant = { λ p. (p.head ≤ vec_len p.stores) × (vec_len p.stores + p.room ≤ vec_capacity p.stores) × AreNewest p.newest p.stores.items };
 }
 
 impl Pending {
-    pub(crate) fn with_room(alloc: Global, room: u64) -> Result<Pending, AllocError>
-        ensures { IfOk result (λ p. p ≡ record { stores = []; room = room }) }
+    /// Memory for so many stores to elements of these globals.
+    #[tactic(auto, using(crate::proofs::NewestStores::empty))]
+    pub(crate) fn with_room(
+        alloc: Global,
+        room: u64,
+        globals: &[module::Global],
+    ) -> Result<Pending, AllocError>
+        ensures { IfOk result (λ p. p ≡ record { stores = []; room = room; counts = counts_for room globals.now }) }
     {
         let stores = Vec::with_capacity(alloc, room as usize)?;
+        let named = if room == 0 { &[] } else { globals };
+        let newest = NewestStores::none(alloc, named)?;
         Ok(Pending {
             stores,
             head: 0,
             room,
+            newest,
         })
     }
 
-    #[tactic(auto, using(crate::proofs::Stores::appended))]
+    #[tactic(auto, using(crate::proofs::NewestStores::pushed))]
     pub(crate) fn push(&mut self, store: Waiting)
-        requires { 0 < self.old.room }
-        ensures { self.new ≡ record { stores = self.old.stores ++ store ∷ []; room = self.old.room - 1 } }
+        requires room { 0 < self.old.room }
+        requires element { store.element < slice_index self.old.counts store.global }
+        ensures { self.new ≡ record self.old { stores = self.old.stores ++ store ∷ []; room = self.old.room - 1 } }
     {
         self.stores.push_reserved(store);
+        let place = self.stores.len();
+        self.newest.set(store.global, store.element, place);
         self.room -= 1;
     }
 
@@ -90,6 +107,7 @@ impl Pending {
         ensures numbers { cells_of globals.new ≡ written_out (take 1 self.old.stores) (cells_of globals.old) }
         ensures shapes { shapes_of globals.new ≡ shapes_of globals.old }
         ensures room { self.new.room ≡ self.old.room }
+        ensures counts { self.new.counts ≡ self.old.counts }
     {
         if let Some(store) = self.stores.get(self.head) {
             globals.set(u128::from(store.global), store.element, store.number);
@@ -105,16 +123,23 @@ impl Pending {
         ensures numbers { cells_of globals.new ≡ written_out self.old.stores (cells_of globals.old) }
         ensures shapes { shapes_of globals.new ≡ shapes_of globals.old }
         ensures room { self.new.room ≡ self.old.room }
+        ensures counts { self.new.counts ≡ self.old.counts }
     {
         write_stores(&self.stores[self.head..], globals);
         self.head = self.stores.len();
     }
 
     /// The newest number that waits for an element, else `number`.
+    #[tactic(auto, using(crate::proofs::NewestStores::looked_up))]
     pub(crate) fn newest(&self, global: u32, element: u128, number: u128) -> u128
         ensures { result ≡ newest global element self.now.stores number }
     {
-        newest_of(&self.stores[self.head..], global, element, number)
+        let place = self.newest.place(global, element);
+        if place > self.head {
+            self.stores[place - 1].number
+        } else {
+            number
+        }
     }
 }
 
@@ -128,18 +153,4 @@ fn write_stores(stores: &[Waiting], globals: &mut Arrays)
     for store in stores {
         globals.set(u128::from(store.global), store.element, store.number);
     }
-}
-
-/// The newest number for an element, else `number`.
-#[tactic(auto, using(crate::proofs::Stores::newer))]
-fn newest_of(stores: &[Waiting], global: u32, element: u128, number: u128) -> u128
-    ensures { result ≡ newest global element stores.now number }
-{
-    let mut newest = number;
-    for store in stores {
-        if store.global == global && store.element == element {
-            newest = store.number;
-        }
-    }
-    newest
 }

@@ -94,11 +94,12 @@ impl<'a> Processor<'a> {
         requires { IsRunnable program.now }
         ensures { IfOk result (λ c. c ≡ begun program.entry.now room function) }
     {
-        let blocks = blocks_of(program.module(), function);
+        let source = program.module();
+        let blocks = blocks_of(source, function);
         let starts = block_starts(alloc, blocks)?;
         let arrays = alloca_arrays(alloc, blocks)?;
         let results = Results::zeros(alloc, arrays.len())?;
-        let pending = Pending::with_room(alloc, room)?;
+        let pending = Pending::with_room(alloc, room, source.globals.as_slice())?;
         Ok(Processor {
             program,
             function,
