@@ -37,21 +37,11 @@ fn is_read(alloc: Global, lines: u32) -> Result<bool, AllocError> {
     Ok(read(alloc, bytes).is_ok())
 }
 
-fn main(rt: HostRuntime) -> ExitCode {
-    let Ok(words) = env::args(&rt) else {
-        return ExitCode::from(71);
-    };
-    let Ok(words) = words.skip(1).collect::<Vec<String>>(rt.alloc()) else {
-        return ExitCode::from(71);
-    };
-    let lines = match words.as_slice() {
-        [word] => word.as_str().parse::<u32>().unwrap_or(0),
-        _ => 0,
-    };
-    match is_read(rt.alloc(), lines) {
-        Ok(true) => ExitCode::from(0),
-        Ok(false) => ExitCode::from(1),
-        Err(_) => ExitCode::from(71),
+fn status_of(alloc: Global, lines: u32) -> u8 {
+    match is_read(alloc, lines) {
+        Ok(true) => 0,
+        Ok(false) => 1,
+        Err(_) => 71,
     }
 }
 """

@@ -1,5 +1,5 @@
 #!/usr/bin/env python3
-"""Times the source machine on 1,000,000 events of a module with 256 globals.
+"""Times the source machine on 1,000,000 events of a module with 256 globals, on x86-64.
 
 Run by hand at the top of the repository: bench/source.py. Builds a program over ax_read, ax_check
 and ax_source in a folder of its own, which is proved first, and prints the seconds and the peak
@@ -8,8 +8,9 @@ memory of each count of events, the reading and the check of the module included
 from timing import measure
 
 PROGRAM = r"""
-//! Reads and checks a module whose function adds to 256 globals in a loop, and runs as many events
-//! of the function as the program's word says.
+//! Reads and checks a module with 256 globals, and runs as many events of its two functions, by
+//! turns, as the program's word says. The first adds to each global in a loop. The second stores to
+//! each global and loads from it, in a loop: its stores wait, and its loads find them.
 #![tactic(auto)]
 
 ghost use Rattle.std.specs.Prelude.{◌≤◌, length};
@@ -26,25 +27,40 @@ use std::process::ExitCode;
 
 const GLOBALS: u32 = 256;
 
-fn text_of(alloc: Global) -> Result<String, AllocError> {
-    let mut text = String::new(alloc);
-    for g in 0..GLOBALS {
-        write!(text, "@g{g} = global i64 {g}, align 8\n")?;
-    }
-    text.push_str("define void @f() {\nentry:\n  br label %loop\nloop:\n")?;
+fn push_adding(text: &mut String) -> Result<(), AllocError> {
+    text.push_str("define void @add() {\nentry:\n  br label %loop\nloop:\n")?;
     for g in 0..GLOBALS {
         write!(text, "  %r{g} = atomicrmw add ptr @g{g}, i64 1 seq_cst, align 8\n")?;
     }
-    text.push_str("  br label %loop\n}\n")?;
+    text.push_str("  br label %loop\n}\n")
+}
+
+fn push_storing(text: &mut String) -> Result<(), AllocError> {
+    text.push_str("define void @store() {\nentry:\n  br label %loop\nloop:\n")?;
+    for g in 0..GLOBALS {
+        write!(text, "  store atomic i64 7, ptr @g{g} monotonic, align 8\n")?;
+        write!(text, "  %r{g} = load atomic i64, ptr @g{g} monotonic, align 8\n")?;
+    }
+    text.push_str("  br label %loop\n}\n")
+}
+
+fn text_of(alloc: Global) -> Result<String, AllocError> {
+    let mut text = String::new(alloc);
+    for g in 0..GLOBALS {
+        write!(text, "@g{g} = global i64 0, align 8\n")?;
+    }
+    push_adding(&mut text)?;
+    push_storing(&mut text)?;
     Ok(text)
 }
 
 fn play(machine: &mut Machine)
-    requires { 1 ≤ length machine.old.processors }
+    requires { 2 ≤ length machine.old.processors }
     ensures { Stays machine.old machine.new }
 {
-    while machine.room() > 0 {
+    while machine.room() > 1 {
         machine.step(SourceEvent::Act(0));
+        machine.step(SourceEvent::Act(1));
     }
 }
 
@@ -56,7 +72,7 @@ fn number_after(alloc: Global, events: u64) -> Option<u128> {
     }
     let module = read(alloc, text.as_bytes()).ok()?;
     let accepted = check(alloc, module, Target::X86 { cx16: false }).ok()?;
-    let mut machine = Machine::start(alloc, &accepted, &[0], events).ok()?;
+    let mut machine = Machine::start(alloc, &accepted, &[0, 1], events).ok()?;
     play(&mut machine);
     let first = accepted.module().globals.as_slice().first()?;
     if first.count == 0 {
@@ -65,21 +81,12 @@ fn number_after(alloc: Global, events: u64) -> Option<u128> {
     Some(machine.object(0, 0))
 }
 
-fn main(rt: HostRuntime) -> ExitCode {
-    let Ok(words) = env::args(&rt) else {
-        return ExitCode::from(71);
-    };
-    let Ok(words) = words.skip(1).collect::<Vec<String>>(rt.alloc()) else {
-        return ExitCode::from(71);
-    };
-    let events = match words.as_slice() {
-        [word] => word.as_str().parse::<u64>().unwrap_or(0),
-        _ => 0,
-    };
-    match number_after(rt.alloc(), events) {
-        Some(number) if number == u128::from(events.saturating_add(255) / 257) => ExitCode::from(0),
-        Some(_) => ExitCode::from(1),
-        None => ExitCode::from(71),
+/// Of each 257 events of the first processor one adds to global 0, the second event being the first.
+fn status_of(alloc: Global, events: u32) -> u8 {
+    match number_after(alloc, u64::from(events)) {
+        Some(number) if number == u128::from((events / 2).saturating_add(255) / 257) => 0,
+        Some(_) => 1,
+        None => 71,
     }
 }
 """
@@ -96,6 +103,6 @@ abbrev pub decreases-loop-machine : goal.decreases-loop-machine
 decreases-loop-machine l = l.machine.room
 """
 
-CRATES = ["ax_ops", "ax_lex", "ax_ir", "ax_lines", "ax_scope", "ax_read", "ax_target", "ax_layout", "ax_rules", "ax_check", "ax_values", "ax_source"]
+CRATES = ["ax_ops", "ax_lex", "ax_ir", "ax_lines", "ax_scope", "ax_read", "ax_target", "ax_layout", "ax_rules", "ax_check", "ax_values", "ax_typed", "ax_source"]
 
 measure("source_bench", PROGRAM, CRATES, [("%d events" % events, events) for events in [0, 1000000]], {"proofs/play/Invariants.antt": INVARIANTS})

@@ -5,6 +5,23 @@ import subprocess
 import tempfile
 import time
 
+# Each program takes one word, a number, and ends with the status of its own function `status_of`.
+MAIN = r"""
+fn main(rt: HostRuntime) -> ExitCode {
+    let Ok(words) = env::args(&rt) else {
+        return ExitCode::from(71);
+    };
+    let Ok(words) = words.skip(1).collect::<Vec<String>>(rt.alloc()) else {
+        return ExitCode::from(71);
+    };
+    let number = match words.as_slice() {
+        [word] => word.as_str().parse::<u32>().unwrap_or(0),
+        _ => 0,
+    };
+    ExitCode::from(status_of(rt.alloc(), number))
+}
+"""
+
 TOP = os.path.dirname(os.path.dirname(os.path.abspath(__file__)))
 
 
@@ -26,7 +43,7 @@ def built(folder, name, program, crates, proofs):
     crate = os.path.join(folder, "crates", name)
     os.makedirs(os.path.join(crate, "src"))
     with open(os.path.join(crate, "src", "main.rt"), "w") as file:
-        file.write(program.lstrip())
+        file.write(program.lstrip() + MAIN)
     for path, text in proofs.items():
         os.makedirs(os.path.dirname(os.path.join(crate, path)), exist_ok=True)
         with open(os.path.join(crate, path), "w") as file:

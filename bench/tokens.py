@@ -28,24 +28,13 @@ fn count(alloc: Global, lines: u32) -> Result<usize, AllocError> {
     }
 }
 
-fn main(rt: HostRuntime) -> ExitCode {
-    let Ok(words) = env::args(&rt) else {
-        return ExitCode::from(71);
-    };
-    let Ok(words) = words.skip(1).collect::<Vec<String>>(rt.alloc()) else {
-        return ExitCode::from(71);
-    };
-    let lines = match words.as_slice() {
-        [word] => word.as_str().parse::<u32>().unwrap_or(0),
-        _ => 0,
-    };
-    match count(rt.alloc(), lines) {
-        Ok(found) if found / 14 == lines as usize => ExitCode::from(0),
-        Ok(_) => ExitCode::from(1),
-        Err(_) => ExitCode::from(71),
+fn status_of(alloc: Global, lines: u32) -> u8 {
+    match count(alloc, lines) {
+        Ok(found) if found / 14 == lines as usize => 0,
+        Ok(_) => 1,
+        Err(_) => 71,
     }
 }
 """
-
 
 measure("lex_bench", PROGRAM, ["ax_lex"], [("%d MiB" % size, size * 2**14) for size in [1, 2, 4, 8, 16]])
