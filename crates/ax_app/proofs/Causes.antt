@@ -1,17 +1,16 @@
 -- What reading the files of a command, and then judging their bytes, comes to.
-use Rattle.std.proofs.Common.{◌≡◌, ℕ, ◌<◌, ◌≤◌, List, [], ◌∷◌, ◌++◌, length, Option, Some, None, refl, sym, ap, subst, ◌∙◌, inl, inr, ⊎_elim, append_assoc}
+use Rattle.std.proofs.Common.{◌≡◌, ℕ, List, [], ◌∷◌, ◌++◌, Option, Some, sym, ap, subst, ◌∙◌, inl, inr, ⊎_elim, append_assoc}
 use Rattle.std.proofs.lemmas.List.{append-nil}
 use Rattle.ax_io.specs.Count.{Rose}
 use Rattle.ax_ir.specs.declared.module.Module.{Module as ModuleType}
 use Rattle.ax_read.specs.Derivation.{Derives}
 use Rattle.ax_app.specs.declared.built.Built.{Built}
-use Rattle.ax_app.specs.declared.verdict.Part.{Part}
 use Rattle.ax_app.specs.declared.verdict.Part.TheVariants.{Module, Schedule}
 use Rattle.ax_app.specs.declared.verdict.Verdict.{Verdict}
 use Rattle.ax_app.specs.declared.verdict.Verdict.TheVariants as verdict
 use Rattle.ax_app.specs.Judged.{IsBuiltAs, JudgesRun, RefusesModule, RefusesSource}
 use Rattle.ax_app.specs.Reads.{ReadWhole, ReadFails}
-use Rattle.ax_app.specs.Serve.{Reading, reading, CauseOf, HasAsked, IsBuilt, IsModuleVerdict, IsRunVerdict, OfBoth, OfFile, limit_of}
+use Rattle.ax_app.specs.Serve.{Reading, reading, CauseOf, HasAsked, IsBuilt, IsModuleVerdict, IsRunVerdict, OfBoth, OfFile}
 
 pub source_refused : (bytes : List ℕ) (m : ModuleType) → Derives bytes m → (v : Verdict) → RefusesSource m v → RefusesModule bytes v
 source_refused bytes m d verdict.Memory h = tt

@@ -6,7 +6,6 @@ use Rattle.ax_ir.specs.WellFormed.{IsModule}
 use Rattle.ax_layout.specs.SourceState.{SourceProgram}
 use Rattle.ax_read.specs.Derivation.{Derives}
 use Rattle.ax_check.specs.Faults.{IsFirstOfFaults}
-use Rattle.ax_first.specs.Alike.{on_rv64}
 use Rattle.ax_first.specs.FirstKind.{first_of}
 use Rattle.ax_first.specs.Kept.{IsKept}
 use Rattle.ax_app.specs.declared.built.Built.{Built}

@@ -1,5 +1,5 @@
 -- *Report* of a machine run of a module: every word is that of the machine's state, of its events and of their explanation.
-use Rattle.std.specs.Prelude.{ℕ, zero, suc, ◌+◌, ◌*◌, ◌||◌, nat_eq, if◌then◌else◌, List, [], ◌∷◌, ◌++◌, length, flat_map}
+use Rattle.std.specs.Prelude.{ℕ, zero, suc, ◌+◌, ◌||◌, nat_eq, if◌then◌else◌, List, [], ◌∷◌, ◌++◌, length, flat_map}
 use Rattle.ax_ops.specs.declared.source.SourceEvent.{SourceEvent}
 use Rattle.ax_store.specs.Bytes.{number_at}
 use Rattle.ax_isa.specs.declared.events.Event.{Event}

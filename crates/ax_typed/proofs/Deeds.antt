@@ -40,15 +40,11 @@ use Rattle.ax_typed.proofs.Calls.{call_is, call_typed}
 use Rattle.ax_typed.proofs.Entries.{entered_typed}
 use Rattle.ax_typed.proofs.Facts.{at_other, element_at, gep_base_defined, gep_is_good, is_not_mixed, operand_at, operands_are_typed, result_is}
 use Rattle.ax_typed.proofs.Objects.{StoreIs, address_typed, drained_typed, gets_typed, goes_typed, written_typed}
-use Rattle.ax_typed.proofs.Pointers.{address_is, alloca_is, is_true, operand_typed, outcomes}
+use Rattle.ax_typed.proofs.Pointers.{address_is, alloca_is, operand_typed, outcomes}
 use Rattle.ax_typed.proofs.Standing.{Stands, sound_here}
-use Rattle.ax_typed.proofs.Types.{ResultsFit, computed_fits, converted_fits, flag_fits, not_other, same_types}
+use Rattle.ax_typed.proofs.Types.{ResultsFit, chosen, computed_fits, converted_fits, flag_fits, is_true, not_other, same_types}
 
 -- ---- numbers
-chosen : (b : Bool) (t : Ty) (x y : ℕ) → IsOf t x → IsOf t y → IsOf t (if b then x else y)
-chosen true t x y p q = p
-chosen false t x y p q = q
-
 retyped : (t u : Ty) (n : ℕ) → t ≡ u → IsOf t n → IsOf u n
 retyped t u n e h = subst (λ (w : Ty). IsOf w n) e h
 

@@ -28,6 +28,7 @@ use Rattle.ax_typed.specs.Typed.{IsAllocaOutcome, IsOf, IsResultOf, IsTypedProce
 use Rattle.ax_typed.proofs.Places.{all_insts, number_at}
 use Rattle.ax_typed.proofs.Pointers.{operand_typed}
 use Rattle.ax_typed.proofs.Standing.{Stands, alloca_before, sound_at}
+use Rattle.ax_typed.proofs.Types.{chosen}
 
 -- ---- a value is unchanged, or the number of a phi
 pub record IsPhiAt (from k : ℕ) (old : ℕ → SourceValue) (insts : List Inst) (j : ℕ) (v : SourceValue) : Type 0 where
@@ -83,10 +84,6 @@ module _ (program : SourceProgram) (accepted : IsAccepted program) (law : AtInst
 
   abbrev f : Function
   f = s.function
-
-  chosen : (b : Bool) (t : Ty) (x y : ℕ) → IsOf t x → IsOf t y → IsOf t (if b then x else y)
-  chosen true t x y p q = p
-  chosen false t x y p q = q
 
   incoming_fits : (t : Ty) (entries : List (Operand × ℕ)) → list_any (is_mistyped (scope_of m f)) (map (λ (e : Operand × ℕ). (t, e.0)) entries) ≡ false → IsOf t (incoming t c.block entries c.values)
   incoming_fits t [] e = pow_pos (type_bits t)

@@ -1,5 +1,5 @@
 -- Operands and pointers of the instruction at which a processor stands, by their places in it.
-use Rattle.std.proofs.Common.{◌≡◌, ℕ, zero, suc, Bool, true, false, not, ◌||◌, List, [], ◌∷◌, ◌++◌, Some, None, refl, sym, ap, ◌∙◌, subst, Contains, flat_map, slice_get}
+use Rattle.std.proofs.Common.{◌≡◌, ℕ, zero, suc, Bool, true, false, not, ◌||◌, List, [], ◌∷◌, ◌++◌, Some, None, sym, ap, ◌∙◌, subst, Contains, flat_map, slice_get}
 use Rattle.std.specs.Prelude.{if◌then◌else◌}
 use Rattle.std.specs.List.{list_any}
 use Rattle.std.proofs.lemmas.Bool.{or_parts, true≢false}
@@ -34,6 +34,7 @@ use Rattle.ax_typed.proofs.Objects.{IsAtOther}
 use Rattle.ax_typed.proofs.Places.{here}
 use Rattle.ax_typed.proofs.Pointers.{element_is, operand_typed, size_is}
 use Rattle.ax_typed.proofs.Standing.{Stands, sound_here}
+use Rattle.ax_typed.proofs.Types.{is_true}
 
 pub any_at : {A : Type 0} (p : A → Bool) (xs : List A) (j : ℕ) (x : A) → list_any p xs ≡ false → slice_get xs j ≡ Some x → p x ≡ false
 any_at p [] j x h e = absurd (none-some x e)
@@ -44,10 +45,6 @@ flat_at : {A B : Type 0} (g : A → List B) (xs : List A) (j : ℕ) (x : A) (y :
 flat_at g [] j x y e h = absurd (none-some x e)
 flat_at {A} {B} g (z ∷ xs) zero x y e h = Contains-append_left (g z) (flat_map g xs) y (subst (λ (w : A). Contains (g w) y) (sym (same_Some z x e)) h)
 flat_at g (z ∷ xs) (suc j) x y e h = Contains-append_right (g z) (flat_map g xs) y (flat_at g xs j x y e h)
-
-is_true : (b : Bool) → not b ≡ false → b ≡ true
-is_true true e = refl
-is_true false e = absurd (true≢false e)
 
 reached : (b x : Bool) → (if b then true else x) ≡ false → x ≡ false
 reached true x h = absurd (true≢false h)

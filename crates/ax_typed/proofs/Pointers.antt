@@ -39,7 +39,7 @@ use Rattle.ax_check.specs.Walk.{passes}
 use Rattle.ax_typed.specs.Typed.{IsAllocaOutcome, IsIntoBase, IsOf, IsResultOf, IsTypedProcessor, address_of, elem_of, outcome_if, outcome_in}
 use Rattle.ax_typed.proofs.Standing.{Stands, few_elements, outcome_is}
 use Rattle.ax_typed.proofs.Places.{all_insts}
-use Rattle.ax_typed.proofs.Types.{not_other, same_types, wrapped_fits}
+use Rattle.ax_typed.proofs.Types.{is_true, not_other, same_types, wrapped_fits}
 
 -- ---- operands
 number_typed : (t : Ty) (o : Outcome) (k : ℕ) (v : SourceValue) → not (is_number_of t o) ≡ false → IsResultOf o k v → IsOf t (number_of v)
@@ -71,10 +71,6 @@ alloca_is (outcome.Number t) h = absurd (false≢true h)
 alloca_is (outcome.Pair t) h = absurd (false≢true h)
 alloca_is (outcome.Gep b elem t index) h = absurd (false≢true h)
 alloca_is outcome.Nothing h = absurd (false≢true h)
-
-pub is_true : (b : Bool) → not b ≡ false → b ≡ true
-is_true true e = refl
-is_true false e = absurd (true≢false e)
 
 or_false : (a b : Bool) → (a || b) ≡ true → b ≡ false → a ≡ true
 or_false true b h e = refl

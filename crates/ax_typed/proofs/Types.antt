@@ -22,6 +22,7 @@ use Rattle.ax_layout.specs.SourceValues.{computed, converted, number_of_flag, sh
 use Rattle.ax_rules.specs.Mixed.{converts}
 use Rattle.ax_rules.specs.Parts.{same_type, type_number}
 use Rattle.ax_rules.specs.Width.{is_odd}
+use Rattle.ax_typed.specs.Typed.{IsOf}
 
 -- ---- a type by its number
 abbrev named : List Ty
@@ -48,12 +49,12 @@ named_again Vector = refl
 pub same_types : (t u : Ty) → same_type t u ≡ true → t ≡ u
 same_types t u h = sym (named_again t) ∙ ap type_named (eqb-true (type_number t) (type_number u) h) ∙ named_again u
 
+pub is_true : (b : Bool) → not b ≡ false → b ≡ true
+is_true true e = refl
+is_true false e = absurd (true≢false e)
+
 pub not_other : (t u : Ty) → not (same_type t u) ≡ false → t ≡ u
 not_other t u h = same_types t u (is_true (same_type t u) h)
-  where
-    is_true : (b : Bool) → not b ≡ false → b ≡ true
-    is_true true e = refl
-    is_true false e = absurd (true≢false e)
 
 pub bits_by_bytes : (t : Ty) → is_odd t ≡ false → is_bit t ≡ false → type_bits t ≡ 8 * type_bytes t
 bits_by_bytes I1 o b = absurd (true≢false b)
@@ -61,6 +62,10 @@ bits_by_bytes (Int bits) o b = absurd (true≢false o)
 bits_by_bytes _ o b = refl
 
 -- ---- numbers of so many bits
+pub chosen : (b : Bool) (t : Ty) (x y : ℕ) → IsOf t x → IsOf t y → IsOf t (if b then x else y)
+chosen true t x y p q = p
+chosen false t x y p q = q
+
 pub wrapped_fits : (bits : ℕ) (z : ℤ) → wrapped bits z < 2 ^ bits
 wrapped_fits bits (pos n) = mod_below n (2 ^ bits) (pow_pos bits)
 wrapped_fits bits (negsuc n) = let p = pow_pos bits in omega (arith, p)

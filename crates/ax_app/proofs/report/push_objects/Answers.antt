@@ -1,4 +1,4 @@
-use Rattle.std.proofs.Common.{◌≡◌, ℕ, ◌+◌, List, ◌++◌, length, sym, ap, ◌∙◌, arith, append_assoc, drop}
+use Rattle.std.proofs.Common.{◌≡◌, ◌+◌, ◌++◌, sym, ap, ◌∙◌, arith, append_assoc, drop}
 use Rattle.std.specs.Prelude.{slice_index_or}
 use Rattle.std.specs.String.{string_bytes}
 use Rattle.ax_store.specs.Bytes.{number_at}
