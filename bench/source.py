@@ -103,6 +103,6 @@ abbrev pub decreases-loop-machine : goal.decreases-loop-machine
 decreases-loop-machine l = l.machine.room
 """
 
-CRATES = ["ax_ops", "ax_lex", "ax_ir", "ax_lines", "ax_scope", "ax_read", "ax_target", "ax_layout", "ax_rules", "ax_check", "ax_values", "ax_typed", "ax_source"]
+CRATES = ["ax_ops", "ax_lex", "ax_ir", "ax_lines", "ax_scope", "ax_read", "ax_target", "ax_layout", "ax_rules", "ax_check", "ax_values", "ax_typed", "ax_cells", "ax_source"]
 
 measure("source_bench", PROGRAM, CRATES, [("%d events" % events, events) for events in [0, 1000000]], {"proofs/play/Invariants.antt": INVARIANTS})

@@ -26,7 +26,8 @@ use Rattle.ax_rules.specs.Tests.{has_width}
 use Rattle.ax_rules.specs.Width.{has_wide_step, is_left_out, is_odd, memory_types}
 use Rattle.ax_check.specs.Accepted.{IsAccepted}
 use Rattle.ax_check.specs.Laws.{AtInstructions, AtPoints, IsSound, IsSoundHead}
-use Rattle.ax_source.specs.Runnable.{IsRunnable, is_narrow_global, is_narrow_inst}
+use Rattle.ax_source.specs.Runnable.{IsRunnable, is_narrow_inst}
+use Rattle.ax_cells.specs.Narrow.{is_narrow_global}
 use Rattle.ax_source.proofs.Typed.{narrow_inst, narrow_type}
 
 here : {X : Type 0} (x : X) (xs : List X) → Contains (x ∷ xs) x

@@ -9,17 +9,17 @@ use Rattle.ax_target.specs.Targets.{is_buffered}
 use Rattle.ax_layout.specs.SourcePointers.{insts_of}
 use Rattle.ax_layout.specs.SourceRun.{first_processor, source_start}
 use Rattle.ax_layout.specs.SourceState.{SourceProgram}
-use Rattle.ax_source.specs.declared.value.Value.TheVariants as value
+use Rattle.ax_cells.specs.declared.value.Value.TheVariants as value
 use Rattle.ax_source.specs.MachineState.{Belongs, IsWhole}
 use Rattle.ax_source.specs.Beginnings.{begun, room_for}
 use Rattle.ax_source.specs.MachineSteps.{processor_at, state_of}
-use Rattle.ax_source.specs.Memories.{initial_array}
+use Rattle.ax_cells.specs.Memories.{initial_array}
 use Rattle.ax_source.specs.ProcessorState.{IsSound, ProcessorState, state_of as processor_of}
 use Rattle.ax_source.specs.Runnable.{IsRunnable}
-use Rattle.ax_source.specs.Shapes.{ArrayState, shapes_of}
-use Rattle.ax_source.proofs.NewestStores.{counts_some}
-use Rattle.ax_source.proofs.Starts.{initial_numbers, initial_shapes, zeros_cells, zeros_shapes}
-use Rattle.ax_source.proofs.Writes.{no_results}
+use Rattle.ax_cells.specs.Shapes.{ArrayState, shapes_of}
+use Rattle.ax_cells.proofs.NewestStores.{counts_some}
+use Rattle.ax_cells.proofs.Starts.{initial_numbers, initial_shapes, zeros_cells, zeros_shapes}
+use Rattle.ax_cells.proofs.Writes.{no_results}
 
 -- ---- a processor
 pub begun_sound : (program : SourceProgram) (room f : ℕ) → IsRunnable program → IsSound (begun program room f)

@@ -7,8 +7,9 @@ use Rattle.ax_ir.specs.declared.inst.Inst.{Inst}
 use Rattle.ax_ir.specs.declared.module.Block.{Block}
 use Rattle.ax_layout.specs.SourceInstructions.{first_number, insts_of_block, is_phi, phi_count, phis_set}
 use Rattle.ax_layout.specs.SourceState.{SourceValue}
-use Rattle.ax_source.specs.Phis.{numbers_put, phi_numbers}
-use Rattle.ax_source.specs.ProcessorState.{starts_from}
+use Rattle.ax_source.specs.Phis.{phi_numbers}
+use Rattle.ax_cells.specs.Shapes.{numbers_put}
+use Rattle.ax_cells.specs.Memories.{starts_from}
 use Rattle.ax_source.proofs.SetTogether.{block_ends, counted, set_together}
 use Rattle.ax_source.proofs.Places.{start_at, starts_size}
 

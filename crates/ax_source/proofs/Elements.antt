@@ -8,10 +8,10 @@ use Rattle.ax_ir.specs.declared.module.Module.{Module}
 use Rattle.ax_layout.specs.SourcePointers.{Elements, elements_of, elements_of_alloca, elements_of_global, insts_of, is_element}
 use Rattle.ax_layout.specs.SourceState.{Shared, Private}
 use Rattle.std.proofs.lemmas.Bool.Decides.{nat_tests}
-use Rattle.ax_source.specs.declared.value.Object.TheVariants as object
-use Rattle.ax_source.specs.declared.value.Pointer.{Pointer}
-use Rattle.ax_source.specs.Values.{object_of, pointer_of}
-use Rattle.ax_source.specs.Shapes.{IsCell, alloca_shapes, global_shapes, shape_in}
+use Rattle.ax_cells.specs.declared.value.Object.TheVariants as object
+use Rattle.ax_cells.specs.declared.value.Pointer.{Pointer}
+use Rattle.ax_cells.specs.Values.{object_of, pointer_of}
+use Rattle.ax_cells.specs.Shapes.{IsCell, alloca_shapes, global_shapes, shape_in}
 
 insts_shapes : (insts : List Inst) (r : ℕ) → shape_in (map (λ inst. elements_of_alloca (Some inst)) insts) r ≡ elements_of_alloca (slice_get insts r)
 unfolding elements_of_alloca

@@ -13,7 +13,7 @@ use Rattle.ax_source.specs.Accesses.{Does, act_deed}
 use Rattle.ax_source.specs.MachineSteps.{alone, event_deed, look_of, looked_at, miss_of, missed_at, named_by, processor_at, processors_of, state_of}
 use Rattle.ax_source.specs.MachineState.{MachineState}
 use Rattle.ax_source.specs.ProcessorState.{ProcessorState, state_of as processor_of}
-use Rattle.ax_source.specs.Shapes.{ArrayState, cells_of}
+use Rattle.ax_cells.specs.Shapes.{ArrayState, cells_of}
 
 -- ---- a list of processors after a write
 list_set : {A : Type 0} (xs : List A) (p q : ℕ) (x : A) → p < length xs → slice_get (slice_set xs p x) q ≡ (if nat_eq q p then Some x else slice_get xs q)

@@ -7,10 +7,6 @@ pub mod Events
 pub mod Inside
 pub mod Narrow
 pub mod Natives
-pub mod NewestStores
 pub mod Places
 pub mod SetTogether
-pub mod Starts
-pub mod Stores
 pub mod Wholes
-pub mod Writes

@@ -20,7 +20,8 @@ use Rattle.ax_ir.specs.declared.operand.Addr.{Addr}
 use Rattle.ax_ir.specs.declared.operand.Arg.{Arg}
 use Rattle.ax_ir.specs.declared.operand.Arg.TheVariants as arg
 use Rattle.ax_ir.specs.declared.operand.Operand.{Operand}
-use Rattle.ax_source.specs.Runnable.{are_narrow, is_narrow, is_narrow_addr, is_narrow_arg, is_narrow_global, is_narrow_inst}
+use Rattle.ax_source.specs.Runnable.{are_narrow, is_narrow_addr, is_narrow_arg, is_narrow_inst}
+use Rattle.ax_cells.specs.Narrow.{is_narrow, is_narrow_global}
 
 pub all_at : {A : Type 0} (p : A → Bool) (xs : List A) (k : ℕ) (x : A) → list_all p xs ≡ true → slice_get xs k ≡ Some x → p x ≡ true
 all_at p [] k x h e = cc

@@ -15,7 +15,7 @@ use Rattle.ax_layout.specs.SourcePointers.{Elements, elements_of, elements_of_gl
 use Rattle.ax_layout.specs.SourceState.{Shared, SourceProgram}
 use Rattle.ax_layout.proofs.Elements.{lie, those}
 use Rattle.ax_source.specs.Runnable.{IsRunnable}
-use Rattle.ax_source.specs.Shapes.{IsCell, global_shapes}
+use Rattle.ax_cells.specs.Shapes.{IsCell, global_shapes}
 use Rattle.ax_source.proofs.Elements.{shared_shape}
 
 -- an element of a global has an address and bytes

@@ -10,7 +10,8 @@ use Rattle.ax_layout.specs.SourceEvent.{inst_at, number_of_next}
 use Rattle.ax_layout.specs.SourceInstructions.{first_number, insts_of_block}
 use Rattle.ax_layout.specs.SourcePointers.{blocks_of}
 use Rattle.ax_source.proofs.Narrow.{inst_narrow}
-use Rattle.ax_source.specs.ProcessorState.{ProcessorState, IsFound, IsSound, Stands, insts_in, starts_from, state_of}
+use Rattle.ax_source.specs.ProcessorState.{ProcessorState, IsFound, IsSound, Stands, insts_in, state_of}
+use Rattle.ax_cells.specs.Memories.{starts_from}
 
 -- ---- a block's instructions
 pub block_is : (blocks : List Block) (b : ℕ) → insts_of_block blocks b ≡ insts_in (slice_get blocks b)

@@ -10,7 +10,8 @@ use Rattle.ax_ir.specs.declared.module.Block.{Block}
 use Rattle.ax_layout.specs.SourceAccess.{put_at}
 use Rattle.ax_layout.specs.SourceInstructions.{first_number, insts_of_block, is_phi, phi_count, phi_number, phis_set}
 use Rattle.ax_layout.specs.SourceState.{SourceValue, Number}
-use Rattle.ax_source.specs.Phis.{numbers_put, phi_number_of, phi_numbers}
+use Rattle.ax_source.specs.Phis.{phi_number_of, phi_numbers}
+use Rattle.ax_cells.specs.Shapes.{numbers_put}
 
 -- ---- as they are defined
 module _ (from : ℕ) (old : ℕ → SourceValue) where
@@ -71,27 +72,6 @@ phis_room from old items insts k i n e few h is f =
     let parts : length (items ++ (n ∷ rest)) ≡ length items + suc (length rest) = grind (arith, common_steps) in
     let most = counted from old insts in
     omega arith
-
-pub put_next : (s k j a b : ℕ) (numbers : List ℕ) (n : ℕ) (values : ℕ → SourceValue) → j ≡ k + 1 → a ≡ s + k → b ≡ s + j → k < length numbers → n ≡ slice_index_or numbers k n
-    → numbers_put a (drop k numbers) values ≡ numbers_put b (drop j numbers) (put_at values a (Number n))
-put_next s k j a b numbers n values e ea eb h is =
-    let next : drop k numbers ≡ n ∷ drop j numbers = at numbers k j e h is in
-    let more : b ≡ a + 1 = omega arith in
-    ap (λ ns. numbers_put a ns values) next ∙ ap (λ x. numbers_put x (drop j numbers) (put_at values a (Number n))) (sym more)
-  where
-    at : (ns : List ℕ) (k j : ℕ) → j ≡ k + 1 → k < length ns → n ≡ slice_index_or ns k n → drop k ns ≡ n ∷ drop j ns
-    at [] k j e h is = absurd (omega arith)
-    at (x ∷ ns) zero j e h is = let f : j ≡ suc zero = omega arith in rw f (ap (λ y. y ∷ ns) (sym is))
-    at (x ∷ ns) (suc k) zero e h is = absurd (omega arith)
-    at (x ∷ ns) (suc k) (suc j) e h is = at ns k j (omega arith) (omega arith) is
-
-pub put_none : (a k : ℕ) (numbers : List ℕ) (values : ℕ → SourceValue) → length numbers ≡ k → numbers_put a (drop k numbers) values ≡ values
-put_none a zero [] values h = refl
-put_none a (suc k) [] values h = refl
-put_none a zero (x ∷ numbers) values h = absurd (omega arith)
-put_none a (suc k) (x ∷ numbers) values h = put_none a k numbers values (omega arith)
-
-pub ruleset puts = (put_next, put_none)
 
 pub ruleset numbers = (number_next, number_last, number_none)
 

@@ -20,7 +20,8 @@ use Rattle.ax_rules.specs.Parts.{arg_types, result_types, same_type, step_types,
 use Rattle.ax_rules.specs.Signatures.{arg_type, argument_types, called_if, fits_out, fits_routine, is_some_routine, result_type, same_result, shape_of, shape_of_kind, type_of_routine, user_call}
 use Rattle.ax_rules.specs.Width.{is_odd}
 use Rattle.ax_source.specs.Calls.{has_pointers, is_pointer, is_pointer_at, routine_has_pointers}
-use Rattle.ax_source.specs.Runnable.{is_narrow, is_narrow_arg, is_narrow_inst, is_narrow_step}
+use Rattle.ax_source.specs.Runnable.{is_narrow_arg, is_narrow_inst, is_narrow_step}
+use Rattle.ax_cells.specs.Narrow.{is_narrow}
 
 -- ---- types
 pub narrow_type : (t : Ty) → is_odd t ≡ false → is_narrow t ≡ true

@@ -8,7 +8,7 @@ use Rattle.ax_layout.specs.SourceState.{SourceProgram}
 use Rattle.ax_source.specs.Accesses.{HasRoom}
 use Rattle.ax_source.specs.MachineState.{Belongs, IsWhole, MachineState}
 use Rattle.ax_source.specs.ProcessorState.{ProcessorState}
-use Rattle.ax_source.specs.Shapes.{ArrayState, global_shapes, shapes_of}
+use Rattle.ax_cells.specs.Shapes.{ArrayState, global_shapes, shapes_of}
 
 module _ (m : MachineState) (p : ℕ) (c : ProcessorState) (h : IsWhole m) (within : p < length m.processors) (is : c ≡ slice_index_or m.processors p c) where
   pub belongs : Belongs m.program m.room c

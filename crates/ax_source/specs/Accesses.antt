@@ -13,8 +13,8 @@ use Rattle.ax_source.specs.declared.access.Operation.TheVariants as operation
 use Rattle.ax_source.specs.declared.access.Reply.{Reply}
 use Rattle.ax_source.specs.declared.access.Reply.TheVariants as reply
 use Rattle.ax_source.specs.ProcessorState.{ProcessorState, state_of}
-use Rattle.ax_source.specs.Shapes.{ArrayState, cells_of}
-use Rattle.ax_source.specs.Values.{pointer_of}
+use Rattle.ax_cells.specs.Shapes.{ArrayState, cells_of}
+use Rattle.ax_cells.specs.Values.{pointer_of}
 
 abbrev pub operation_of : Operation → ObjectOperation
 operation_of operation.Reads = Reads

@@ -4,9 +4,9 @@ use Rattle.ax_ops.specs.declared.source.SourceStatus.TheVariants.{Running}
 use Rattle.ax_target.specs.Targets.{is_buffered}
 use Rattle.ax_layout.specs.SourcePointers.{insts_of}
 use Rattle.ax_layout.specs.SourceState.{SourceProgram}
-use Rattle.ax_source.specs.declared.value.Value.TheVariants as value
-use Rattle.ax_source.specs.Memories.{zeros_of}
-use Rattle.ax_source.specs.PendingState.{counts_for}
+use Rattle.ax_cells.specs.declared.value.Value.TheVariants as value
+use Rattle.ax_cells.specs.Memories.{zeros_of}
+use Rattle.ax_cells.specs.PendingState.{counts_for}
 use Rattle.ax_source.specs.ProcessorState.{ProcessorState}
 
 -- a processor at the first instruction of a function

@@ -5,11 +5,6 @@ pub mod Instructions
 pub mod Kinds
 pub mod MachineState
 pub mod MachineSteps
-pub mod Memories
-pub mod NewestStores
-pub mod PendingState
 pub mod Phis
 pub mod ProcessorState
 pub mod Runnable
-pub mod Shapes
-pub mod Values

@@ -5,7 +5,7 @@ use Rattle.ax_layout.specs.SourceRun.{first_processor}
 use Rattle.ax_layout.specs.SourceState.{SourceProcessor, SourceProgram, SourceState}
 use Rattle.ax_source.specs.ProcessorState.{ProcessorState, state_of as processor_of}
 use Rattle.ax_source.specs.Runnable.{IsRunnable}
-use Rattle.ax_source.specs.Shapes.{ArrayState, cells_of, global_shapes, shapes_of}
+use Rattle.ax_cells.specs.Shapes.{ArrayState, cells_of, global_shapes, shapes_of}
 
 -- an array for each global, the outputs with their processors, and how many events still fit
 pub record MachineState : Type 0 where

@@ -1,9 +1,8 @@
 -- Phis that are set together, by the numbers that come to them.
-use Rattle.std.specs.Prelude.{ℕ, ◌+◌, List, [], ◌∷◌, Option, Some, None, if◌then◌else◌}
+use Rattle.std.specs.Prelude.{ℕ, List, [], ◌∷◌, Option, Some, None, if◌then◌else◌}
 use Rattle.ax_ir.specs.declared.inst.Inst.{Inst}
-use Rattle.ax_layout.specs.SourceAccess.{put_at}
 use Rattle.ax_layout.specs.SourceInstructions.{is_phi, phi_number}
-use Rattle.ax_layout.specs.SourceState.{SourceValue, Number}
+use Rattle.ax_layout.specs.SourceState.{SourceValue}
 
 -- the number that comes to a phi
 abbrev pub phi_number_of : ℕ → (ℕ → SourceValue) → Inst → Option ℕ
@@ -13,8 +12,3 @@ phi_number_of from values i = if is_phi i then Some (phi_number from values i) e
 abbrev pub phi_numbers : ℕ → (ℕ → SourceValue) → List Inst → List ℕ
 phi_numbers from values [] = []
 phi_numbers from values (i ∷ insts) = if is_phi i then phi_number from values i ∷ phi_numbers from values insts else []
-
--- numbers as results from instruction k on
-abbrev pub numbers_put : ℕ → List ℕ → (ℕ → SourceValue) → ℕ → SourceValue
-numbers_put k [] values = values
-numbers_put k (n ∷ numbers) values = numbers_put (k + 1) numbers (put_at values k (Number n))

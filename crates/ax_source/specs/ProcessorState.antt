@@ -1,15 +1,15 @@
 -- What contracts see of a processor.
-use Rattle.std.specs.Prelude.{◌≡◌, ◌<◌, ◌+◌, ℕ, List, [], ◌∷◌, Option, Some, None, IsSome, IsTrue, length}
+use Rattle.std.specs.Prelude.{◌≡◌, ◌<◌, ℕ, List, [], Option, Some, None, IsSome, IsTrue, length}
 use Rattle.ax_ir.specs.declared.inst.Inst.{Inst}
 use Rattle.ax_ir.specs.declared.module.Block.{Block}
 use Rattle.ax_ops.specs.declared.source.SourceStatus.{SourceStatus}
 use Rattle.ax_layout.specs.SourceEvent.{inst_at}
 use Rattle.ax_layout.specs.SourcePointers.{insts_of}
 use Rattle.ax_layout.specs.SourceState.{SourceProcessor, SourceProgram}
-use Rattle.ax_source.specs.declared.value.Value.{Value}
-use Rattle.ax_source.specs.PendingState.{PendingState, HaveCells, counts_in}
+use Rattle.ax_cells.specs.declared.value.Value.{Value}
+use Rattle.ax_cells.specs.PendingState.{PendingState, HaveCells, counts_in}
 use Rattle.ax_source.specs.Runnable.{IsRunnable, is_narrow_inst}
-use Rattle.ax_source.specs.Shapes.{ArrayState, alloca_shapes, cells_of, global_shapes, shapes_of, values_of}
+use Rattle.ax_cells.specs.Shapes.{ArrayState, alloca_shapes, cells_of, global_shapes, shapes_of, values_of}
 
 -- a processor of a program, with its results and arrays by the numbers of instructions
 pub record ProcessorState : Type 0 where
@@ -35,11 +35,6 @@ state_of c = record {
   seen = c.seen;
   pending = c.waiting.stores;
 }
-
--- the numbers of the first instructions of blocks, where instruction n is the first of them all
-abbrev pub starts_from : ℕ → List Block → List ℕ
-starts_from n [] = []
-starts_from n (block ∷ blocks) = n ∷ starts_from (n + length block.insts) blocks
 
 -- what isn't there has none
 abbrev pub insts_in : Option Block → List Inst

@@ -1,11 +1,10 @@
 -- What the source machine asks of a module.
-use Rattle.std.specs.Prelude.{◌≡◌, ◌≤◌, ℕ, Bool, true, ◌&&◌, ◌||◌, nat_eq, IsTrue, Option, Some, None, length, nat_le}
+use Rattle.std.specs.Prelude.{◌≡◌, ◌≤◌, ℕ, Bool, true, ◌&&◌, IsTrue, Option, Some, None, length}
 use Rattle.std.specs.List.{list_all}
 use Rattle.ax_ir.specs.declared.inst.Inst.{Inst}
 use Rattle.ax_ir.specs.declared.inst.Inst.TheVariants.{Bin, Icmp, Select, Convert, Phi, Alloca, Gep, Load, LoadAtomic, Store, StoreAtomic, Cmpxchg, Rmw, Call}
 use Rattle.ax_ir.specs.declared.module.Block.{Block}
 use Rattle.ax_ir.specs.declared.module.Function.{Function}
-use Rattle.ax_ir.specs.declared.module.Global.{Global}
 use Rattle.ax_ir.specs.declared.module.Module.{Module}
 use Rattle.ax_ir.specs.declared.operand.Addr.{Addr}
 use Rattle.ax_ir.specs.declared.operand.Arg.{Arg}
@@ -18,11 +17,7 @@ use Rattle.ax_layout.specs.Layout.{CanBeLaidOut, layout_of}
 use Rattle.ax_layout.specs.SourceInstructions.{insts_of_block, phi_count}
 use Rattle.ax_layout.specs.SourcePointers.{blocks_of, insts_of}
 use Rattle.ax_layout.specs.SourceState.{SourceProgram}
-use Rattle.ax_layout.specs.SourceValues.{type_bits}
-
--- at most 128 bits
-abbrev pub is_narrow : Ty → Bool
-is_narrow ty = nat_le (type_bits ty) 128
+use Rattle.ax_cells.specs.Narrow.{is_narrow, is_narrow_global}
 
 abbrev pub is_narrow_step : Option (Ty × ℕ × Ty × Operand) → Bool
 is_narrow_step None = true
@@ -52,10 +47,6 @@ is_narrow_inst (Cmpxchg weak addr ty v other w success failure align) = is_narro
 is_narrow_inst (Rmw op addr ty v order align) = is_narrow_addr addr && is_narrow ty
 is_narrow_inst (Call result name args) = list_all is_narrow_arg args && routine_has_pointers (routine_named name) args
 is_narrow_inst _ = true
-
--- a global's type, and a constant for each element or none
-abbrev pub is_narrow_global : Global → Bool
-is_narrow_global global = is_narrow global.elem && (nat_eq (length global.init) 0 || nat_eq (length global.init) global.count)
 
 abbrev pub are_narrow : Module → Bool
 are_narrow m = list_all is_narrow_global m.globals && list_all (λ (f : Function). list_all (λ (block : Block). list_all is_narrow_inst block.insts) f.blocks) m.functions

@@ -9,13 +9,11 @@ ghost use Rattle.ax_layout.specs.SourceValues.{type_bits};
 ghost use Rattle.ax_target.specs.Targets.{is_buffered};
 ghost use Rattle.ax_source.specs.Accesses.{Did, Does, HasRoom, IsAnswerable, IsPerformable, Went, access_in, operation_of, reply_of};
 ghost use Rattle.ax_source.specs.ProcessorState.{Kept, Stands, state_of};
-ghost use Rattle.ax_source.specs.Shapes.{IsCell, alloca_shapes, cells_of, global_shapes, shapes_of};
-ghost use Rattle.ax_source.specs.Values.{pointer_of};
+ghost use Rattle.ax_cells.specs.Shapes.{IsCell, alloca_shapes, cells_of, global_shapes, shapes_of};
+ghost use Rattle.ax_cells.specs.Values.{pointer_of};
 
-use crate::arrays::Arrays;
-use crate::pending::Waiting;
 use crate::processor::Processor;
-use crate::value::{Object, Pointer, Value};
+use ax_cells::{Arrays, Object, Pointer, Value, Waiting};
 use ax_ops::RmwOp;
 use ax_target::{Target, buffered, max_native};
 use ax_values::update;

@@ -8,11 +8,11 @@ ghost use Rattle.ax_source.specs.Accesses.{access_in, operation_of, reply_of};
 ghost use Rattle.ax_source.specs.Kinds.{kind_in};
 ghost use Rattle.ax_source.specs.ProcessorState.{state_of};
 ghost use Rattle.ax_source.specs.Runnable.{is_narrow_arg};
-ghost use Rattle.ax_source.specs.Values.{pointer_of};
+ghost use Rattle.ax_cells.specs.Values.{pointer_of};
 
 use crate::access::{Access, Operation, Reply};
 use crate::processor::Processor;
-use crate::value::{Object, Pointer, Value};
+use ax_cells::{Object, Pointer, Value};
 use ax_ir::Arg;
 use ax_ops::{RmwOp, RoutineName};
 

@@ -9,11 +9,11 @@ ghost use Rattle.ax_source.specs.Accesses.{Does, HasRoom, Went, act_deed};
 ghost use Rattle.ax_source.specs.ProcessorState.{Kept, Stands, state_of};
 ghost use Rattle.ax_source.specs.Runnable.{is_narrow_arg, is_narrow_inst};
 ghost use Rattle.std.specs.List.{list_all};
-ghost use Rattle.ax_source.specs.Shapes.{cells_of, global_shapes, shapes_of};
+ghost use Rattle.ax_cells.specs.Shapes.{cells_of, global_shapes, shapes_of};
 
-use crate::arrays::Arrays;
 use crate::instructions::is_seq_cst;
 use crate::processor::Processor;
+use ax_cells::Arrays;
 use ax_ir::{Arg, Inst, Name, Operand, Ty};
 
 /// Whether a call is one of `@out`.

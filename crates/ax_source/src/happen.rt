@@ -4,10 +4,10 @@ ghost use Rattle.std.specs.Prelude.{◌≡◌};
 ghost use Rattle.ax_source.specs.Accesses.{Does, HasRoom, Went};
 ghost use Rattle.ax_source.specs.MachineSteps.{event_deed};
 ghost use Rattle.ax_source.specs.ProcessorState.{state_of};
-ghost use Rattle.ax_source.specs.Shapes.{cells_of, global_shapes, shapes_of};
+ghost use Rattle.ax_cells.specs.Shapes.{cells_of, global_shapes, shapes_of};
 
-use crate::arrays::Arrays;
 use crate::processor::Processor;
+use ax_cells::Arrays;
 use ax_ops::SourceEvent;
 
 impl<'a> Processor<'a> {

@@ -10,12 +10,12 @@ ghost use Rattle.ax_source.specs.Instructions.{any_outside};
 ghost use Rattle.ax_source.specs.ProcessorState.{state_of};
 ghost use Rattle.ax_source.specs.Calls.{routine_has_pointers};
 ghost use Rattle.ax_source.specs.Runnable.{is_narrow_arg, is_narrow_inst};
-ghost use Rattle.ax_source.specs.Values.{pointer_of, value_of};
+ghost use Rattle.ax_cells.specs.Values.{pointer_of, value_of};
 
 use crate::access::{Access, Operation, Reply};
 use crate::calls::Kind;
 use crate::processor::Processor;
-use crate::value::{Object, Pointer, Value};
+use ax_cells::{Object, Pointer, Value};
 use ax_ir::{Arg, Inst, Name, Ty};
 use ax_ops::{Op, Order, RoutineName, Width};
 use ax_target::{Target, Way, decide};

@@ -2,7 +2,6 @@
 #![tactic(auto)]
 
 mod access;
-mod arrays;
 mod calls;
 mod deeds;
 mod happen;
@@ -10,14 +9,9 @@ mod instructions;
 pub mod laws;
 mod looks;
 pub mod machine;
-mod memory;
-mod newest_stores;
 mod operands;
-mod pending;
 mod phis;
 mod processor;
-mod results;
-mod value;
 
 pub use ax_ops::{Items, SourceEvent, SourceStatus};
 pub use laws::accepted_modules_are_runnable;

@@ -6,12 +6,11 @@ ghost use Rattle.ax_layout.specs.SourcePointers.{is_element};
 ghost use Rattle.ax_source.specs.MachineSteps.{look_of, miss_of};
 ghost use Rattle.ax_source.specs.ProcessorState.{Kept, state_of};
 ghost use Rattle.ax_source.specs.Runnable.{is_narrow_inst};
-ghost use Rattle.ax_source.specs.Shapes.{cells_of};
-ghost use Rattle.ax_source.specs.Values.{pointer_of};
+ghost use Rattle.ax_cells.specs.Shapes.{cells_of};
+ghost use Rattle.ax_cells.specs.Values.{pointer_of};
 
-use crate::arrays::Arrays;
 use crate::processor::Processor;
-use crate::value::{Object, Pointer, Value};
+use ax_cells::{Arrays, Object, Pointer, Value};
 use ax_ir::Inst;
 
 impl<'a> Processor<'a> {

@@ -8,10 +8,9 @@ ghost use Rattle.std.specs.Vec.{vec_capacity};
 ghost use Rattle.ax_source.specs.Beginnings.{begun, room_for};
 ghost use Rattle.ax_source.specs.Runnable.{IsRunnable};
 
-use crate::arrays::Arrays;
 use crate::laws::accepted_modules_are_runnable;
-use crate::memory::initial_arrays;
 use crate::processor::Processor;
+use ax_cells::{Arrays, initial_arrays};
 use ax_check::Accepted;
 use ax_ops::{SourceEvent, SourceStatus};
 use ax_target::buffered;

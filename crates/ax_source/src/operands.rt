@@ -3,28 +3,16 @@
 ghost use Rattle.std.specs.Prelude.{◌≡◌, ◌≤◌, IsTrue};
 ghost use Rattle.ax_layout.specs.SourceInstructions.{is_inside};
 ghost use Rattle.ax_layout.specs.SourcePointers.{base_of, elements_of, is_element, pointer_of as pointer_to, scaled, stepped};
-ghost use Rattle.ax_layout.specs.SourceState.{Number};
 ghost use Rattle.ax_layout.specs.SourceValues.{operand_of, part_in, type_bits};
-ghost use Rattle.ax_source.specs.Runnable.{is_narrow, is_narrow_addr};
+ghost use Rattle.ax_source.specs.Runnable.{is_narrow_addr};
+ghost use Rattle.ax_cells.specs.Narrow.{is_narrow};
 ghost use Rattle.ax_source.specs.ProcessorState.{IsSound, state_of};
-ghost use Rattle.ax_source.specs.Values.{object_of, pointer_of};
+ghost use Rattle.ax_cells.specs.Values.{object_of, pointer_of};
 
 use crate::processor::Processor;
-use crate::value::{Object, Pointer, Value};
+use ax_cells::{Object, Pointer, Value, constant};
 use ax_ir::{Addr, Base, Operand, Ty};
-use ax_values::{bits, index, low, wrapped};
-
-/// A constant at a type. What is no constant counts as 0.
-pub(crate) fn constant(ty: Ty, operand: Operand) -> u128
-    requires { IsTrue (is_narrow ty) }
-    ensures { result ≡ operand_of ty operand (λ k. Number 0) }
-{
-    match operand {
-        Operand::Const(n) => wrapped(bits(ty), n),
-        Operand::Wide(n) => low(bits(ty), n),
-        Operand::Value(_) | Operand::Param(_) => 0,
-    }
-}
+use ax_values::{bits, index};
 
 /// An index of bytes as one of elements, which have so many bytes.
 #[tactic(auto, using(crate::proofs::Elements::quotients))]

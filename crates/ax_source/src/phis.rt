@@ -6,7 +6,8 @@ ghost use Rattle.ax_layout.specs.SourceInstructions.{entered, incoming, phi_coun
 ghost use Rattle.ax_layout.specs.SourcePointers.{blocks_of};
 ghost use Rattle.ax_source.specs.Phis.{phi_number_of, phi_numbers};
 ghost use Rattle.ax_source.specs.ProcessorState.{Kept, state_of};
-ghost use Rattle.ax_source.specs.Runnable.{is_narrow, is_narrow_inst};
+ghost use Rattle.ax_source.specs.Runnable.{is_narrow_inst};
+ghost use Rattle.ax_cells.specs.Narrow.{is_narrow};
 
 use crate::processor::{Processor, insts_of_block};
 use arrayvec::ArrayVec;

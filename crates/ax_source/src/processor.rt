@@ -8,16 +8,13 @@ ghost use Rattle.ax_layout.specs.SourceInstructions.{entered, insts_of_block};
 ghost use Rattle.ax_layout.specs.SourcePointers.{blocks_of};
 ghost use Rattle.ax_source.specs.Beginnings.{begun};
 ghost use Rattle.ax_source.specs.Runnable.{IsRunnable};
-ghost use Rattle.ax_source.specs.Values.{value_of};
-ghost use Rattle.ax_source.specs.Shapes.{IsCell, alloca_shapes, cells_of, global_shapes, shape_in, shapes_of};
+ghost use Rattle.ax_cells.specs.Values.{value_of};
+ghost use Rattle.ax_cells.specs.Shapes.{IsCell, alloca_shapes, cells_of, global_shapes, shape_in, shapes_of};
 ghost use Rattle.ax_source.specs.Phis.{phi_numbers};
-ghost use Rattle.ax_source.specs.ProcessorState.{IsSound, Kept, Stands, IsFound, insts_in, starts_from, state_of};
+ghost use Rattle.ax_source.specs.ProcessorState.{IsSound, Kept, Stands, IsFound, insts_in, state_of};
+ghost use Rattle.ax_cells.specs.Memories.{starts_from};
 
-use crate::arrays::Arrays;
-use crate::memory::{alloca_arrays, block_starts};
-use crate::pending::{Pending, Waiting};
-use crate::results::Results;
-use crate::value::Value;
+use ax_cells::{Arrays, Pending, Results, Value, Waiting, alloca_arrays, block_starts};
 use ax_check::Accepted;
 use ax_ir::{Block, Inst, Module, Ty};
 use ax_ops::SourceStatus;
@@ -45,7 +42,8 @@ pub(crate) struct Processor<'a> {
 impl<'a> Model for Processor<'a> {
     ghost use Rattle.std.specs.Prelude.{◌≡◌};
     ghost use Rattle.ax_layout.specs.SourcePointers.{blocks_of};
-    ghost use Rattle.ax_source.specs.ProcessorState.{ProcessorState, IsSound, starts_from};
+    ghost use Rattle.ax_source.specs.ProcessorState.{ProcessorState, IsSound};
+    ghost use Rattle.ax_cells.specs.Memories.{starts_from};
 
     ghost Value = { ProcessorState };
 

@@ -2,7 +2,7 @@ use Rattle.std.proofs.Common.{List, map, sym, ap, ◌∙◌, subst, arith}
 use Rattle.ax_ir.specs.declared.module.Global.{Global}
 use Rattle.ax_ir.specs.declared.module.Module.{Module}
 use Rattle.ax_layout.specs.SourceState.{SourceState}
-use Rattle.ax_source.specs.Memories.{initial_array}
+use Rattle.ax_cells.specs.Memories.{initial_array}
 use Rattle.ax_source.proofs.Begins.{started, whole}
 use Rattle.ax_typed.specs.Typed.{IsTyped}
 use Rattle.ax_source.proofs.machine.Machine.start.Goals as goal

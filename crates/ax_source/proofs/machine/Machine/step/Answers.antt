@@ -3,7 +3,7 @@ use Rattle.std.specs.Prelude.{slice_index_or, slice_set}
 use Rattle.ax_layout.specs.SourceEvent.{source_event}
 use Rattle.ax_layout.specs.SourceState.{SourceState}
 use Rattle.ax_source.specs.MachineState.{MachineState, processors_of, state_of}
-use Rattle.ax_source.specs.Shapes.{cells_of}
+use Rattle.ax_cells.specs.Shapes.{cells_of}
 use Rattle.ax_source.proofs.Events.{happened}
 use Rattle.ax_source.proofs.Wholes.{belongs, stays_whole, word}
 use Rattle.ax_typed.specs.Typed.{IsTyped}

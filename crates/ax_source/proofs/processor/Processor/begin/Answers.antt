@@ -4,11 +4,11 @@ use Rattle.std.proofs.lemmas.List.{length-map}
 use Rattle.ax_ir.specs.declared.module.Block.{Block}
 use Rattle.ax_ir.specs.declared.module.Module.{Module}
 use Rattle.ax_layout.specs.SourcePointers.{blocks_of, insts_of}
-use Rattle.ax_source.specs.declared.value.Value.TheVariants as value
+use Rattle.ax_cells.specs.declared.value.Value.TheVariants as value
 use Rattle.ax_source.specs.Beginnings.{begun}
-use Rattle.ax_source.specs.Memories.{zeros_of}
-use Rattle.ax_source.specs.PendingState.{counts_for}
-use Rattle.ax_source.specs.ProcessorState.{IsSound, starts_from}
+use Rattle.ax_cells.specs.Memories.{starts_from, zeros_of}
+use Rattle.ax_cells.specs.PendingState.{counts_for}
+use Rattle.ax_source.specs.ProcessorState.{IsSound}
 use Rattle.ax_source.proofs.Begins.{begun_sound}
 use Rattle.ax_source.proofs.processor.Processor.begin.Goals as goal
 

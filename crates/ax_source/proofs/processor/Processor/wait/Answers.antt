@@ -1,7 +1,7 @@
 use Rattle.std.proofs.Common.{◌<◌, ap, subst, sym, arith}
 use Rattle.ax_source.specs.ProcessorState.{ProcessorState}
-use Rattle.ax_source.specs.Shapes.{IsCell, global_shapes}
-use Rattle.ax_source.proofs.NewestStores.{cell_counted}
+use Rattle.ax_cells.specs.Shapes.{IsCell, global_shapes}
+use Rattle.ax_cells.proofs.NewestStores.{cell_counted}
 use Rattle.ax_source.proofs.processor.Processor.wait.Goals as goal
 
 pub push-requires-clause-element : goal.push-requires-clause-element

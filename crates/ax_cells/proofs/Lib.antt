@@ -1,0 +1,4 @@
+pub mod NewestStores
+pub mod Starts
+mod Stores
+pub mod Writes

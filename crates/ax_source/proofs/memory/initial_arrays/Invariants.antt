@@ -1,6 +1,0 @@
-use Rattle.std.proofs.Common.{◌≡◌, map, take}
-use Rattle.ax_source.specs.Memories.{initial_array}
-use Rattle.ax_source.proofs.memory.initial_arrays.Given as goal
-
-abbrev pub invariant-loop-global : goal.invariant-loop-global
-invariant-loop-global l = l.arrays.items ≡ map initial_array (take l.global-index l.globals)
