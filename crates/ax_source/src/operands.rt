@@ -2,7 +2,7 @@
 
 ghost use Rattle.std.specs.Prelude.{◌≡◌, ◌≤◌, IsTrue};
 ghost use Rattle.ax_layout.specs.SourceInstructions.{is_inside};
-ghost use Rattle.ax_layout.specs.SourcePointers.{base_of, elements_of, is_element, pointer_of as pointer_to, scaled, stepped};
+ghost use Rattle.ax_layout.specs.SourcePointers.{base_of, elements_of, pointer_of as pointer_to, scaled, stepped};
 ghost use Rattle.ax_layout.specs.SourceValues.{operand_of, part_in, type_bits};
 ghost use Rattle.ax_source.specs.Runnable.{is_narrow_addr};
 ghost use Rattle.ax_cells.specs.Narrow.{is_narrow};
