@@ -9,8 +9,8 @@ use Rattle.ax_lex.specs.declared.bytes.Start.TheVariants as start
 use Rattle.ax_lex.specs.Bytes.{is_letter, is_digit, is_name_byte, is_literal_byte, start_of}
 use Rattle.ax_lex.specs.Tokens.{some_all, is_quoted, is_name, is_number, goes_on, is_token}
 use Rattle.ax_lex.proofs.Written.{closed_from}
-use Rattle.ax_ir.specs.Names as names
-use Rattle.ax_ir.specs.Names.{is_printable, is_plain, global_token}
+use Rattle.ax_module.specs.Names as names
+use Rattle.ax_module.specs.Names.{is_printable, is_plain, global_token}
 use Rattle.ax_again.specs.Pieces.{kind_from, kind_of}
 use Rattle.ax_again.proofs.Fit.{IsFit}
 

@@ -2,35 +2,35 @@
 use Rattle.std.proofs.Common.{◌≡◌, ℕ, Bool, true, false, cond, ◌&&◌, List, [], ◌∷◌, ◌++◌, flat_map, Option, Some, None, refl, sym, ap, subst, ◌∙◌, codes, ◌^◌, nat_lt, append_assoc}
 use Rattle.std.specs.List.{list_all}
 use Rattle.std.proofs.lemmas.Bool.{and_parts, ltb-true}
-use Rattle.ax_ir.specs.declared.types.Ty.{Ty}
-use Rattle.ax_ir.specs.declared.types.Ty.TheVariants as ty
-use Rattle.ax_ir.specs.declared.operand.Operand.{Operand}
-use Rattle.ax_ir.specs.declared.operand.Base.{Base}
-use Rattle.ax_ir.specs.declared.operand.Addr.{Addr}
-use Rattle.ax_ir.specs.declared.operand.Arg.{Arg}
-use Rattle.ax_ir.specs.declared.operand.Arg.TheVariants as arg
-use Rattle.ax_ir.specs.declared.inst.Inst.{Inst}
-use Rattle.ax_ir.specs.declared.inst.Inst.TheVariants as inst
-use Rattle.ax_ir.specs.Names.{global_token}
+use Rattle.ax_module.specs.declared.types.Ty.{Ty}
+use Rattle.ax_module.specs.declared.types.Ty.TheVariants as ty
+use Rattle.ax_module.specs.declared.operand.Operand.{Operand}
+use Rattle.ax_module.specs.declared.operand.Base.{Base}
+use Rattle.ax_module.specs.declared.operand.Addr.{Addr}
+use Rattle.ax_module.specs.declared.operand.Arg.{Arg}
+use Rattle.ax_module.specs.declared.operand.Arg.TheVariants as arg
+use Rattle.ax_module.specs.declared.inst.Inst.{Inst}
+use Rattle.ax_module.specs.declared.inst.Inst.TheVariants as inst
+use Rattle.ax_module.specs.Names.{global_token}
 use Rattle.ax_ir.specs.OperandTokens.{parted, type_tokens, operand_token, typed_tokens, pointer_tokens, gep_tokens, constant_gep_tokens, step_tokens, addr_tokens, arg_tokens}
 use Rattle.ax_ir.specs.InstTokens.{result_type_tokens, inst_tokens}
-use Rattle.ax_ir.specs.WellFormed.{Scope, is_type, is_typed, is_base, is_step, is_addr, is_arg, is_operand, is_result_type, is_callee_name, is_inst}
-use Rattle.ax_ir.specs.Ranges.{is_word, is_in_range, is_step_in_range, is_arg_in_range, is_inst_in_range}
-use Rattle.ax_lines.specs.declared.symbol.Sign.{Sign}
-use Rattle.ax_lines.specs.declared.symbol.Sign.TheVariants as sign
-use Rattle.ax_lines.specs.declared.symbol.Word.TheVariants as word
-use Rattle.ax_lines.specs.declared.symbol.Punctuation.TheVariants as mark
-use Rattle.ax_lines.specs.declared.symbol.Span.{Span}
-use Rattle.ax_lines.specs.declared.pass.Pass.TheVariants as pass
+use Rattle.ax_module.specs.WellFormed.{Scope, is_type, is_typed, is_base, is_step, is_addr, is_arg, is_operand, is_result_type, is_callee_name, is_inst}
+use Rattle.ax_module.specs.Ranges.{is_word, is_in_range, is_step_in_range, is_arg_in_range, is_inst_in_range}
+use Rattle.ax_symbols.specs.declared.symbol.Sign.{Sign}
+use Rattle.ax_symbols.specs.declared.symbol.Sign.TheVariants as sign
+use Rattle.ax_symbols.specs.declared.vocabulary.Word.TheVariants as word
+use Rattle.ax_symbols.specs.declared.symbol.Punctuation.TheVariants as mark
+use Rattle.ax_symbols.specs.declared.symbol.Span.{Span}
+use Rattle.ax_symbols.specs.declared.pass.Pass.TheVariants as pass
 use Rattle.ax_lines.specs.declared.statement.Argument.{Argument}
 use Rattle.ax_lines.specs.declared.statement.Statement.{Statement}
 use Rattle.ax_lines.specs.declared.statement.Statement.TheVariants as statement
 use Rattle.ax_lines.specs.declared.statement.Line.{Line}
 use Rattle.ax_lines.specs.declared.statement.Line.TheVariants as line
-use Rattle.ax_lines.specs.Signs.{same_sign, same_word, word_text, same_mark}
-use Rattle.ax_lines.specs.Symbols.{word_of}
-use Rattle.ax_lines.specs.Pieces.{is_close}
-use Rattle.ax_lines.specs.Grammar.{Grammar, list}
+use Rattle.ax_symbols.specs.Signs.{same_sign, same_word, word_text, same_mark}
+use Rattle.ax_symbols.specs.Symbols.{word_of}
+use Rattle.ax_symbols.specs.Pieces.{is_close}
+use Rattle.ax_symbols.specs.Grammar.{Grammar, list}
 use Rattle.ax_lines.specs.Productions.{pointer_argument, value_argument, call_argument, items_at, items_in, call, call_states, may_have}
 use Rattle.ax_scope.specs.Names.{text_at}
 use Rattle.ax_scope.specs.Resolve.{Looks, arg_of, args_of, inst_of}

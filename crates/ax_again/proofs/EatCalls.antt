@@ -1,26 +1,26 @@
 -- What arguments of calls make of canonical tokens.
 use Rattle.std.proofs.Common.{◌≡◌, ℕ, Bool, true, false, cond, not, List, ◌∷◌, ◌++◌, Option, Some, None, refl, ap, ◌∙◌, codes, ◌^◌, pos, negsuc, arith, true≢false}
 use Rattle.std.proofs.lemmas.Bool.{and_parts, not-true, false≢true, ltb-true}
-use Rattle.ax_ir.specs.declared.types.Ty.{Ty}
-use Rattle.ax_ir.specs.declared.types.Ty.TheVariants as ty
-use Rattle.ax_ir.specs.declared.operand.Operand.{Operand}
-use Rattle.ax_ir.specs.declared.operand.Operand.TheVariants as operand
-use Rattle.ax_ir.specs.declared.operand.Base.{Base}
-use Rattle.ax_ir.specs.declared.operand.Base.TheVariants as base
-use Rattle.ax_ir.specs.Names.{global_token}
+use Rattle.ax_module.specs.declared.types.Ty.{Ty}
+use Rattle.ax_module.specs.declared.types.Ty.TheVariants as ty
+use Rattle.ax_module.specs.declared.operand.Operand.{Operand}
+use Rattle.ax_module.specs.declared.operand.Operand.TheVariants as operand
+use Rattle.ax_module.specs.declared.operand.Base.{Base}
+use Rattle.ax_module.specs.declared.operand.Base.TheVariants as base
+use Rattle.ax_module.specs.Names.{global_token}
 use Rattle.ax_ir.specs.OperandTokens.{type_tokens, operand_token, base_token}
-use Rattle.ax_ir.specs.declared.operand.Arg.TheVariants as arg
+use Rattle.ax_module.specs.declared.operand.Arg.TheVariants as arg
 use Rattle.ax_ir.specs.InstTokens.{result_type_tokens}
-use Rattle.ax_ir.specs.WellFormed.{Scope, begins_with, is_type, is_result_type, is_callee_name, is_operand, is_constant, is_base}
-use Rattle.ax_ir.specs.Ranges.{is_in_range}
-use Rattle.ax_lines.specs.declared.symbol.Sign.TheVariants as sign
-use Rattle.ax_lines.specs.declared.symbol.Word.TheVariants as word
-use Rattle.ax_lines.specs.declared.symbol.Span.{Span}
-use Rattle.ax_lines.specs.declared.pass.Pass.TheVariants as pass
-use Rattle.ax_lines.specs.Signs.{word_text, same_sign, same_word}
-use Rattle.ax_lines.specs.Symbols.{word_of, global_sign}
-use Rattle.ax_lines.specs.Pieces.{callee_in, callee_of}
-use Rattle.ax_lines.specs.Grammar.{Grammar, one}
+use Rattle.ax_module.specs.WellFormed.{Scope, begins_with, is_type, is_result_type, is_callee_name, is_operand, is_constant, is_base}
+use Rattle.ax_module.specs.Ranges.{is_in_range}
+use Rattle.ax_symbols.specs.declared.symbol.Sign.TheVariants as sign
+use Rattle.ax_symbols.specs.declared.vocabulary.Word.TheVariants as word
+use Rattle.ax_symbols.specs.declared.symbol.Span.{Span}
+use Rattle.ax_symbols.specs.declared.pass.Pass.TheVariants as pass
+use Rattle.ax_symbols.specs.Signs.{word_text, same_sign, same_word}
+use Rattle.ax_symbols.specs.Symbols.{word_of, global_sign}
+use Rattle.ax_symbols.specs.Pieces.{callee_in, callee_of}
+use Rattle.ax_symbols.specs.Grammar.{Grammar, one}
 use Rattle.ax_lines.specs.Productions.{result_type, begins_pointer, pointer_argument, call_argument}
 use Rattle.ax_scope.specs.Names.{text_at}
 use Rattle.ax_scope.specs.Resolve.{Looks, arg_of}

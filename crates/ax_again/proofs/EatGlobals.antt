@@ -4,29 +4,29 @@ use Rattle.std.specs.List.{list_all, starts_with}
 use Rattle.std.specs.Ordering.{int_eq}
 use Rattle.std.proofs.lemmas.Bool.Decides.{Decides-int_eq}
 use Rattle.std.proofs.lemmas.Bool.{and_parts, and_from, not-true, eqb-true, false_from_ne_true, ltb-true, eq-eqb}
-use Rattle.ax_ir.specs.declared.types.Ty.{Ty}
-use Rattle.ax_ir.specs.declared.types.Ty.TheVariants as ty
-use Rattle.ax_ir.specs.declared.operand.Operand.{Operand}
-use Rattle.ax_ir.specs.declared.operand.Operand.TheVariants as operand
-use Rattle.ax_ir.specs.declared.module.Global.{Global}
-use Rattle.ax_ir.specs.Names.{is_name, global_token}
+use Rattle.ax_module.specs.declared.types.Ty.{Ty}
+use Rattle.ax_module.specs.declared.types.Ty.TheVariants as ty
+use Rattle.ax_module.specs.declared.operand.Operand.{Operand}
+use Rattle.ax_module.specs.declared.operand.Operand.TheVariants as operand
+use Rattle.ax_module.specs.declared.module.Global.{Global}
+use Rattle.ax_module.specs.Names.{is_name, global_token}
 use Rattle.ax_ir.specs.OperandTokens.{parted, type_tokens, array_tokens, elements_tokens, align_tokens, operand_token, typed_tokens}
 use Rattle.ax_ir.specs.Canonical.{init_tokens, global_tokens}
-use Rattle.ax_ir.specs.WellFormed.{begins_with, is_type, is_constant, is_zero, is_init, is_global_name, is_global}
-use Rattle.ax_ir.specs.Ranges.{is_word, is_stated_word, is_in_range, is_global_in_range}
-use Rattle.ax_lines.specs.declared.symbol.Sign.{Sign}
-use Rattle.ax_lines.specs.declared.symbol.Sign.TheVariants as sign
-use Rattle.ax_lines.specs.declared.symbol.Word.TheVariants as word
-use Rattle.ax_lines.specs.declared.symbol.Span.{Span}
-use Rattle.ax_lines.specs.declared.pass.Pass.TheVariants as pass
-use Rattle.ax_lines.specs.declared.statement.Value.{Value}
-use Rattle.ax_lines.specs.declared.statement.Value.TheVariants as value
+use Rattle.ax_module.specs.WellFormed.{begins_with, is_type, is_constant, is_zero, is_init, is_global_name, is_global}
+use Rattle.ax_module.specs.Ranges.{is_word, is_stated_word, is_in_range, is_global_in_range}
+use Rattle.ax_symbols.specs.declared.symbol.Sign.{Sign}
+use Rattle.ax_symbols.specs.declared.symbol.Sign.TheVariants as sign
+use Rattle.ax_symbols.specs.declared.vocabulary.Word.TheVariants as word
+use Rattle.ax_symbols.specs.declared.symbol.Span.{Span}
+use Rattle.ax_symbols.specs.declared.pass.Pass.TheVariants as pass
+use Rattle.ax_symbols.specs.declared.values.Value.{Value}
+use Rattle.ax_symbols.specs.declared.values.Value.TheVariants as value
 use Rattle.ax_lines.specs.declared.statement.Line.{Line}
 use Rattle.ax_lines.specs.declared.statement.Line.TheVariants as line
-use Rattle.ax_lines.specs.Signs.{same_sign, same_mark}
-use Rattle.ax_lines.specs.Symbols.{word_of}
-use Rattle.ax_lines.specs.Pieces.{const_in, const_of}
-use Rattle.ax_lines.specs.Grammar.{by, one}
+use Rattle.ax_symbols.specs.Signs.{same_sign, same_mark}
+use Rattle.ax_symbols.specs.Symbols.{word_of}
+use Rattle.ax_symbols.specs.Pieces.{const_in, const_of}
+use Rattle.ax_symbols.specs.Grammar.{by, one}
 use Rattle.ax_lines.specs.Productions as lines
 use Rattle.ax_lines.specs.Productions.{global_line, initial, element, same_type, kept, count_or, outside, elements}
 use Rattle.ax_scope.specs.Names.{text_at}

@@ -2,40 +2,40 @@
 use Rattle.std.proofs.Common.{◌≡◌, ℕ, ◌^◌, Bool, true, false, cond, ◌&&◌, List, [], ◌∷◌, ◌++◌, Option, Some, None, refl, sym, ap, subst, ◌∙◌, codes, decimal, nat_lt, ◌==◌, append_assoc, arith}
 use Rattle.std.proofs.lemmas.Bool.{and_parts, ltb-true, eqb-true}
 use Rattle.std.proofs.lemmas.List.{append-nil}
-use Rattle.ax_ops.specs.declared.order.Order.{Order}
-use Rattle.ax_ops.specs.declared.order.Order.TheVariants as order
-use Rattle.ax_ops.specs.Orders.{order_word}
-use Rattle.ax_ops.specs.declared.operation.RmwOp.{RmwOp}
-use Rattle.ax_ops.specs.declared.operation.RmwOp.TheVariants as rmw
-use Rattle.ax_ops.specs.Operation.{operation_word}
-use Rattle.ax_ir.specs.declared.types.Ty.{Ty}
-use Rattle.ax_ir.specs.declared.types.Ty.TheVariants as ty
-use Rattle.ax_ir.specs.declared.operand.Operand.{Operand}
-use Rattle.ax_ir.specs.declared.operand.Base.{Base}
-use Rattle.ax_ir.specs.declared.operand.Addr.{Addr}
-use Rattle.ax_ir.specs.declared.inst.BinOp.{BinOp}
-use Rattle.ax_ir.specs.declared.inst.BinOp.TheVariants as bin
-use Rattle.ax_ir.specs.declared.inst.Pred.{Pred}
-use Rattle.ax_ir.specs.declared.inst.Pred.TheVariants as pred
-use Rattle.ax_ir.specs.declared.inst.Cast.{Cast}
-use Rattle.ax_ir.specs.declared.inst.Cast.TheVariants as cast
-use Rattle.ax_ir.specs.declared.inst.Inst.{Inst}
-use Rattle.ax_ir.specs.declared.inst.Inst.TheVariants as inst
-use Rattle.ax_ir.specs.Words.{binary_word, condition_word, cast_word}
+use Rattle.ax_words.specs.declared.order.Order.{Order}
+use Rattle.ax_words.specs.declared.order.Order.TheVariants as order
+use Rattle.ax_words.specs.Orders.{order_word}
+use Rattle.ax_words.specs.declared.operation.RmwOp.{RmwOp}
+use Rattle.ax_words.specs.declared.operation.RmwOp.TheVariants as rmw
+use Rattle.ax_words.specs.Operation.{operation_word}
+use Rattle.ax_module.specs.declared.types.Ty.{Ty}
+use Rattle.ax_module.specs.declared.types.Ty.TheVariants as ty
+use Rattle.ax_module.specs.declared.operand.Operand.{Operand}
+use Rattle.ax_module.specs.declared.operand.Base.{Base}
+use Rattle.ax_module.specs.declared.operand.Addr.{Addr}
+use Rattle.ax_module.specs.declared.inst.BinOp.{BinOp}
+use Rattle.ax_module.specs.declared.inst.BinOp.TheVariants as bin
+use Rattle.ax_module.specs.declared.inst.Pred.{Pred}
+use Rattle.ax_module.specs.declared.inst.Pred.TheVariants as pred
+use Rattle.ax_module.specs.declared.inst.Cast.{Cast}
+use Rattle.ax_module.specs.declared.inst.Cast.TheVariants as cast
+use Rattle.ax_module.specs.declared.inst.Inst.{Inst}
+use Rattle.ax_module.specs.declared.inst.Inst.TheVariants as inst
+use Rattle.ax_module.specs.Words.{binary_word, condition_word, cast_word}
 use Rattle.ax_ir.specs.OperandTokens.{gep_tokens, type_tokens, array_tokens, elements_tokens, operand_token, typed_tokens, label_tokens, addr_tokens, align_tokens}
 use Rattle.ax_ir.specs.InstTokens.{inst_tokens, weak_tokens, scope_tokens, pair_tokens}
-use Rattle.ax_ir.specs.WellFormed.{Scope, is_type, is_operand, is_typed, is_addr, is_base, is_inst}
-use Rattle.ax_ir.specs.Ranges.{is_word, is_stated_word, is_in_range, is_addr_in_range, is_inst_in_range}
-use Rattle.ax_lines.specs.declared.symbol.Sign.{Sign}
-use Rattle.ax_lines.specs.declared.symbol.Sign.TheVariants as sign
-use Rattle.ax_lines.specs.declared.symbol.Word.TheVariants as word
-use Rattle.ax_lines.specs.declared.pass.Pass.TheVariants as pass
+use Rattle.ax_module.specs.WellFormed.{Scope, is_type, is_operand, is_typed, is_addr, is_base, is_inst}
+use Rattle.ax_module.specs.Ranges.{is_word, is_stated_word, is_in_range, is_addr_in_range, is_inst_in_range}
+use Rattle.ax_symbols.specs.declared.symbol.Sign.{Sign}
+use Rattle.ax_symbols.specs.declared.symbol.Sign.TheVariants as sign
+use Rattle.ax_symbols.specs.declared.vocabulary.Word.TheVariants as word
+use Rattle.ax_symbols.specs.declared.pass.Pass.TheVariants as pass
 use Rattle.ax_lines.specs.declared.statement.Statement.{Statement}
-use Rattle.ax_lines.specs.declared.symbol.Word.{Word}
-use Rattle.ax_lines.specs.Signs.{word_text, same_sign, same_word}
-use Rattle.ax_lines.specs.Symbols.{word_of}
-use Rattle.ax_lines.specs.Pieces.{order_in, order_of, pred_in, binary_in, cast_in, rmw_in, part_in}
-use Rattle.ax_lines.specs.Grammar.{Grammar, one, typed}
+use Rattle.ax_symbols.specs.declared.vocabulary.Word.{Word}
+use Rattle.ax_symbols.specs.Signs.{word_text, same_sign, same_word}
+use Rattle.ax_symbols.specs.Symbols.{word_of}
+use Rattle.ax_symbols.specs.Pieces.{order_in, order_of, pred_in, binary_in, cast_in, rmw_in, part_in}
+use Rattle.ax_symbols.specs.Grammar.{Grammar, one, typed}
 use Rattle.ax_lines.specs.Productions.{maybe, path, count_or, elements, typed_value, binary, comparison, selection, conversion, alloca, getelementptr, atomic_load, plain_load, exchange, modification, extraction, atomic_store, plain_store, fence, jump, branch, return_void, return_value, unreachable_line}
 use Rattle.ax_scope.specs.Resolve.{Looks, inst_of}
 use Rattle.ax_again.proofs.Eats.{token_sign, nth_sign, Eats, ◌>>=◌, ◌>>◌, eaten, sign1, sign2, sign3, sign4, one_eats, Quiet, passes, takes, skips, tail_ends}

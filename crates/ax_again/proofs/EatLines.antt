@@ -1,31 +1,31 @@
 -- What the lines of instructions make of canonical tokens.
 use Rattle.std.proofs.Common.{◌≡◌, ℕ, Bool, true, false, cond, List, [], ◌∷◌, ◌++◌, Option, Some, None, refl, sym, ap, ◌∙◌, codes, decimal, append_assoc, true≢false}
 use Rattle.std.proofs.lemmas.Bool.{and_parts}
-use Rattle.ax_ir.specs.declared.types.Ty.{Ty}
-use Rattle.ax_ir.specs.declared.operand.Operand.{Operand}
-use Rattle.ax_ir.specs.declared.operand.Addr.{Addr}
-use Rattle.ax_ir.specs.declared.inst.BinOp.{BinOp}
-use Rattle.ax_ir.specs.declared.inst.BinOp.TheVariants as bin
-use Rattle.ax_ir.specs.declared.inst.Cast.{Cast}
-use Rattle.ax_ir.specs.declared.inst.Cast.TheVariants as cast
-use Rattle.ax_ir.specs.declared.inst.Inst.{Inst}
-use Rattle.ax_ir.specs.declared.inst.Inst.TheVariants as inst
-use Rattle.ax_ir.specs.Kinds.{has_result, is_phi}
-use Rattle.ax_ir.specs.Words.{binary_word, cast_word}
+use Rattle.ax_module.specs.declared.types.Ty.{Ty}
+use Rattle.ax_module.specs.declared.operand.Operand.{Operand}
+use Rattle.ax_module.specs.declared.operand.Addr.{Addr}
+use Rattle.ax_module.specs.declared.inst.BinOp.{BinOp}
+use Rattle.ax_module.specs.declared.inst.BinOp.TheVariants as bin
+use Rattle.ax_module.specs.declared.inst.Cast.{Cast}
+use Rattle.ax_module.specs.declared.inst.Cast.TheVariants as cast
+use Rattle.ax_module.specs.declared.inst.Inst.{Inst}
+use Rattle.ax_module.specs.declared.inst.Inst.TheVariants as inst
+use Rattle.ax_module.specs.Kinds.{has_result, is_phi}
+use Rattle.ax_module.specs.Words.{binary_word, cast_word}
 use Rattle.ax_ir.specs.OperandTokens.{type_tokens, operand_token, typed_tokens, label_tokens, addr_tokens, align_tokens, value_token}
 use Rattle.ax_ir.specs.InstTokens.{inst_tokens, numbered_inst_tokens}
-use Rattle.ax_ir.specs.WellFormed.{Scope, is_type, is_operand, is_typed, is_addr, is_inst}
-use Rattle.ax_ir.specs.Ranges.{is_inst_in_range}
-use Rattle.ax_lines.specs.declared.symbol.Sign.{Sign}
-use Rattle.ax_lines.specs.declared.symbol.Sign.TheVariants as sign
-use Rattle.ax_lines.specs.declared.symbol.Word.TheVariants as word
-use Rattle.ax_lines.specs.declared.symbol.Span.{Span}
+use Rattle.ax_module.specs.WellFormed.{Scope, is_type, is_operand, is_typed, is_addr, is_inst}
+use Rattle.ax_module.specs.Ranges.{is_inst_in_range}
+use Rattle.ax_symbols.specs.declared.symbol.Sign.{Sign}
+use Rattle.ax_symbols.specs.declared.symbol.Sign.TheVariants as sign
+use Rattle.ax_symbols.specs.declared.vocabulary.Word.TheVariants as word
+use Rattle.ax_symbols.specs.declared.symbol.Span.{Span}
 use Rattle.ax_lines.specs.declared.statement.Statement.{Statement}
 use Rattle.ax_lines.specs.declared.statement.Line.{Line}
-use Rattle.ax_lines.specs.Signs.{word_text, same_sign, same_word}
-use Rattle.ax_lines.specs.Symbols.{word_of}
-use Rattle.ax_lines.specs.Pieces.{local_in}
-use Rattle.ax_lines.specs.Grammar.{Grammar, by}
+use Rattle.ax_symbols.specs.Signs.{word_text, same_sign, same_word}
+use Rattle.ax_symbols.specs.Symbols.{word_of}
+use Rattle.ax_symbols.specs.Pieces.{local_in}
+use Rattle.ax_symbols.specs.Grammar.{Grammar, by}
 use Rattle.ax_lines.specs.Productions.{binary, conversion, plain_load, plain_store, may_have, states, load_line, store_line, return_value, return_line, phi_line, valued, unnamed, result_name, named, in_block}
 use Rattle.ax_scope.specs.Names.{text_at, maybe_at}
 use Rattle.ax_scope.specs.Resolve.{Looks, inst_of}

@@ -3,24 +3,24 @@ use Rattle.std.proofs.Common.{◌≡◌, ℕ, Bool, true, false, cond, ◌&&◌,
 use Rattle.std.specs.List.{list_all}
 use Rattle.std.proofs.lemmas.Bool.{and_parts}
 use Rattle.std.proofs.lemmas.List.{append-nil}
-use Rattle.ax_ir.specs.declared.types.Ty.{Ty}
-use Rattle.ax_ir.specs.declared.operand.Operand.{Operand}
-use Rattle.ax_ir.specs.declared.inst.Inst.TheVariants as inst
+use Rattle.ax_module.specs.declared.types.Ty.{Ty}
+use Rattle.ax_module.specs.declared.operand.Operand.{Operand}
+use Rattle.ax_module.specs.declared.inst.Inst.TheVariants as inst
 use Rattle.ax_ir.specs.OperandTokens.{parted}
 use Rattle.ax_ir.specs.InstTokens.{entry_tokens, inst_tokens}
-use Rattle.ax_ir.specs.WellFormed.{Scope, is_type, is_operand, is_entry, is_nonempty, is_inst}
-use Rattle.ax_ir.specs.Ranges.{is_in_range, is_inst_in_range}
-use Rattle.ax_lines.specs.declared.symbol.Sign.{Sign}
-use Rattle.ax_lines.specs.declared.symbol.Sign.TheVariants as sign
-use Rattle.ax_lines.specs.declared.symbol.Punctuation.TheVariants as mark
-use Rattle.ax_lines.specs.declared.symbol.Span.{Span}
-use Rattle.ax_lines.specs.declared.symbol.Symbol.{Symbol}
-use Rattle.ax_lines.specs.declared.statement.Value.{Value}
+use Rattle.ax_module.specs.WellFormed.{Scope, is_type, is_operand, is_entry, is_nonempty, is_inst}
+use Rattle.ax_module.specs.Ranges.{is_in_range, is_inst_in_range}
+use Rattle.ax_symbols.specs.declared.symbol.Sign.{Sign}
+use Rattle.ax_symbols.specs.declared.symbol.Sign.TheVariants as sign
+use Rattle.ax_symbols.specs.declared.symbol.Punctuation.TheVariants as mark
+use Rattle.ax_symbols.specs.declared.symbol.Span.{Span}
+use Rattle.ax_symbols.specs.declared.symbol.Symbol.{Symbol}
+use Rattle.ax_symbols.specs.declared.values.Value.{Value}
 use Rattle.ax_lines.specs.declared.statement.Statement.{Statement}
-use Rattle.ax_lines.specs.Signs.{same_sign, same_mark}
-use Rattle.ax_lines.specs.Symbols.{word_of}
-use Rattle.ax_lines.specs.Pieces.{strip}
-use Rattle.ax_lines.specs.Grammar.{Grammar, list, comma, Listed, last, more, Derives}
+use Rattle.ax_symbols.specs.Signs.{same_sign, same_mark}
+use Rattle.ax_symbols.specs.Symbols.{word_of}
+use Rattle.ax_symbols.specs.Pieces.{strip}
+use Rattle.ax_symbols.specs.Grammar.{Grammar, list, comma, Listed, last, more, Derives}
 use Rattle.ax_lines.specs.Productions.{incoming, phi}
 use Rattle.ax_scope.specs.Resolve.{Looks, operand_of, block_of, incoming_of, inst_of}
 use Rattle.ax_again.proofs.Eats.{SpelledAll, nth_sign, Eats, ◌>>=◌, ◌>>◌, eaten, sign1}

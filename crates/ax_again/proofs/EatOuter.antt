@@ -3,24 +3,24 @@ use Rattle.std.proofs.Common.{◌≡◌, ℕ, ◌+◌, ◌-◌, Bool, true, fals
 use Rattle.std.specs.List.{list_all}
 use Rattle.std.proofs.lemmas.Bool.{and_parts}
 use Rattle.std.proofs.lemmas.List.{take_all}
-use Rattle.ax_ir.specs.declared.types.Ty.{Ty}
-use Rattle.ax_ir.specs.declared.module.Function.{Function}
-use Rattle.ax_ir.specs.Names.{global_token}
+use Rattle.ax_module.specs.declared.types.Ty.{Ty}
+use Rattle.ax_module.specs.declared.module.Function.{Function}
+use Rattle.ax_module.specs.Names.{global_token}
 use Rattle.ax_ir.specs.OperandTokens.{parted, type_tokens, param_token}
 use Rattle.ax_ir.specs.InstTokens.{result_type_tokens}
 use Rattle.ax_ir.specs.Canonical.{numbered_param_tokens, later_params_tokens, params_tokens, function_result_tokens, define_tokens}
-use Rattle.ax_ir.specs.WellFormed.{is_type, is_result_type}
-use Rattle.ax_lines.specs.declared.symbol.Sign.{Sign}
-use Rattle.ax_lines.specs.declared.symbol.Sign.TheVariants as sign
-use Rattle.ax_lines.specs.declared.symbol.Punctuation.TheVariants as mark
-use Rattle.ax_lines.specs.declared.symbol.Span.{Span}
-use Rattle.ax_lines.specs.declared.pass.Pass.TheVariants as pass
+use Rattle.ax_module.specs.WellFormed.{is_type, is_result_type}
+use Rattle.ax_symbols.specs.declared.symbol.Sign.{Sign}
+use Rattle.ax_symbols.specs.declared.symbol.Sign.TheVariants as sign
+use Rattle.ax_symbols.specs.declared.symbol.Punctuation.TheVariants as mark
+use Rattle.ax_symbols.specs.declared.symbol.Span.{Span}
+use Rattle.ax_symbols.specs.declared.pass.Pass.TheVariants as pass
 use Rattle.ax_lines.specs.declared.statement.Line.{Line}
 use Rattle.ax_lines.specs.declared.statement.Line.TheVariants as line
-use Rattle.ax_lines.specs.Signs.{same_mark}
-use Rattle.ax_lines.specs.Symbols.{word_of}
-use Rattle.ax_lines.specs.Pieces.{local_in, global_in, global_of, is_close, is_label_sign}
-use Rattle.ax_lines.specs.Grammar.{by, one, list}
+use Rattle.ax_symbols.specs.Signs.{same_mark}
+use Rattle.ax_symbols.specs.Symbols.{word_of}
+use Rattle.ax_symbols.specs.Pieces.{local_in, global_in, global_of, is_close, is_label_sign}
+use Rattle.ax_symbols.specs.Grammar.{by, one, list}
 use Rattle.ax_lines.specs.Productions.{parameter, items_in, label_line, close_line, define_line, at_start, behind_block, between, outside}
 use Rattle.ax_scope.specs.Names.{text_at}
 use Rattle.ax_again.proofs.Numerals.{local_name}

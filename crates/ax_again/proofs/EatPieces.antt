@@ -2,37 +2,37 @@
 use Rattle.std.proofs.Common.{◌≡◌, ℕ, suc, ◌-◌, ◌^◌, ◌<◌, arith, Bool, true, false, cond, pos, negsuc, List, [], ◌∷◌, ◌++◌, length, take, Option, Some, None, refl, sym, ap, subst, ◌∙◌, codes, decimal, nat_le, nat_lt, ◌==◌, append_assoc, slice_index_or, true≢false}
 use Rattle.std.specs.Option.{option_map}
 use Rattle.std.proofs.lemmas.Bool.{and_parts, le-leb, leb-true, ltb-true, le-ltb, not-true, or_parts, eqb-true, false_from_ne_true}
-use Rattle.ax_ir.specs.declared.types.Ty.{Ty}
-use Rattle.ax_ir.specs.declared.types.Ty.TheVariants as ty
-use Rattle.ax_ir.specs.Types.{whole_number_type}
-use Rattle.ax_ir.specs.declared.operand.Operand.{Operand}
-use Rattle.ax_ir.specs.declared.operand.Operand.TheVariants as operand
-use Rattle.ax_ir.specs.declared.operand.Base.{Base}
-use Rattle.ax_ir.specs.declared.operand.Base.TheVariants as base
-use Rattle.ax_ir.specs.Names as names
-use Rattle.ax_ir.specs.Names.{is_name, is_plain, global_token}
+use Rattle.ax_module.specs.declared.types.Ty.{Ty}
+use Rattle.ax_module.specs.declared.types.Ty.TheVariants as ty
+use Rattle.ax_module.specs.Types.{whole_number_type}
+use Rattle.ax_module.specs.declared.operand.Operand.{Operand}
+use Rattle.ax_module.specs.declared.operand.Operand.TheVariants as operand
+use Rattle.ax_module.specs.declared.operand.Base.{Base}
+use Rattle.ax_module.specs.declared.operand.Base.TheVariants as base
+use Rattle.ax_module.specs.Names as names
+use Rattle.ax_module.specs.Names.{is_name, is_plain, global_token}
 use Rattle.ax_lex.specs.declared.token.TokenKind.TheVariants as kind
-use Rattle.ax_lines.specs.Signs.{same_mark}
-use Rattle.ax_lines.specs.Symbols.{word_of, begins_quote, name_of, sign_of, global_sign}
+use Rattle.ax_symbols.specs.Signs.{same_mark}
+use Rattle.ax_symbols.specs.Symbols.{word_of, begins_quote, name_of, sign_of, global_sign}
 use Rattle.ax_again.specs.Pieces.{kind_of}
 use Rattle.std.specs.List.{list_all}
 use Rattle.std.proofs.lemmas.List.{take_all, take_at, length-append}
 use Rattle.ax_ir.specs.OperandTokens.{type_tokens, align_tokens, block_token, operand_token, typed_tokens, base_token}
-use Rattle.ax_ir.specs.WellFormed.{Scope, is_type, is_constant, is_value, is_operand, is_base}
-use Rattle.ax_ir.specs.Ranges.{is_word, is_stated_word, is_in_range}
-use Rattle.ax_lines.specs.declared.symbol.Sign.{Sign}
-use Rattle.ax_lines.specs.declared.symbol.Sign.TheVariants as sign
-use Rattle.ax_lines.specs.declared.symbol.Word.TheVariants as word
-use Rattle.ax_lines.specs.declared.symbol.Span.{Span}
-use Rattle.ax_lines.specs.declared.symbol.Symbol.{Symbol}
-use Rattle.ax_lines.specs.declared.pass.Pass.{Pass}
-use Rattle.ax_lines.specs.declared.pass.Pass.TheVariants as pass
-use Rattle.ax_lines.specs.declared.statement.Value.{Value}
-use Rattle.ax_lines.specs.declared.statement.Value.TheVariants as value
-use Rattle.ax_lines.specs.declared.statement.Base.{Base as NamedBase}
-use Rattle.ax_lines.specs.declared.statement.Base.TheVariants as named
-use Rattle.ax_lines.specs.Pieces.{count_in, count_of, const_in, value_in, value_of, base_in, base_of, local_in, local_of, simple_type, type_at, one_at, simple_type_of, closed, opens_vector, is_less}
-use Rattle.ax_lines.specs.Grammar.{one, typed}
+use Rattle.ax_module.specs.WellFormed.{Scope, is_type, is_constant, is_value, is_operand, is_base}
+use Rattle.ax_module.specs.Ranges.{is_word, is_stated_word, is_in_range}
+use Rattle.ax_symbols.specs.declared.symbol.Sign.{Sign}
+use Rattle.ax_symbols.specs.declared.symbol.Sign.TheVariants as sign
+use Rattle.ax_symbols.specs.declared.vocabulary.Word.TheVariants as word
+use Rattle.ax_symbols.specs.declared.symbol.Span.{Span}
+use Rattle.ax_symbols.specs.declared.symbol.Symbol.{Symbol}
+use Rattle.ax_symbols.specs.declared.pass.Pass.{Pass}
+use Rattle.ax_symbols.specs.declared.pass.Pass.TheVariants as pass
+use Rattle.ax_symbols.specs.declared.values.Value.{Value}
+use Rattle.ax_symbols.specs.declared.values.Value.TheVariants as value
+use Rattle.ax_symbols.specs.declared.values.Base.{Base as NamedBase}
+use Rattle.ax_symbols.specs.declared.values.Base.TheVariants as named
+use Rattle.ax_symbols.specs.Pieces.{count_in, count_of, const_in, value_in, value_of, base_in, base_of, local_in, local_of, simple_type, type_at, one_at, simple_type_of, closed, opens_vector, is_less}
+use Rattle.ax_symbols.specs.Grammar.{one, typed}
 use Rattle.ax_lines.specs.Productions.{alignment, stated_alignment, typed_value}
 use Rattle.ax_scope.specs.declared.meaning.Meaning.TheVariants as meaning
 use Rattle.ax_scope.specs.Names.{text_at}

@@ -1,27 +1,27 @@
 -- What pointers and the types of arrays make of canonical tokens.
 use Rattle.std.proofs.Common.{◌≡◌, ℕ, Bool, true, false, cond, List, [], ◌∷◌, ◌++◌, Option, Some, None, refl, sym, ap, subst, ◌∙◌, codes, decimal, nat_lt, ◌^◌, ◌==◌, append_assoc}
 use Rattle.std.proofs.lemmas.Bool.{and_parts, eqb-true, ltb-true}
-use Rattle.ax_ir.specs.declared.types.Ty.{Ty}
-use Rattle.ax_ir.specs.declared.types.Ty.TheVariants as ty
-use Rattle.ax_ir.specs.declared.operand.Operand.{Operand}
-use Rattle.ax_ir.specs.declared.operand.Base.{Base}
-use Rattle.ax_ir.specs.declared.operand.Base.TheVariants as base
-use Rattle.ax_ir.specs.declared.operand.Addr.{Addr}
+use Rattle.ax_module.specs.declared.types.Ty.{Ty}
+use Rattle.ax_module.specs.declared.types.Ty.TheVariants as ty
+use Rattle.ax_module.specs.declared.operand.Operand.{Operand}
+use Rattle.ax_module.specs.declared.operand.Base.{Base}
+use Rattle.ax_module.specs.declared.operand.Base.TheVariants as base
+use Rattle.ax_module.specs.declared.operand.Addr.{Addr}
 use Rattle.ax_ir.specs.OperandTokens.{operand_token, type_tokens, array_tokens, typed_tokens, base_token, pointer_tokens, gep_tokens, constant_gep_tokens, step_tokens, addr_tokens}
-use Rattle.ax_ir.specs.WellFormed.{Scope, is_type, is_operand, is_typed, is_base, is_step, is_addr}
-use Rattle.ax_ir.specs.Ranges.{is_word, is_in_range, is_step_in_range, is_addr_in_range}
-use Rattle.ax_lines.specs.declared.symbol.Sign.{Sign}
-use Rattle.ax_lines.specs.declared.symbol.Sign.TheVariants as sign
-use Rattle.ax_lines.specs.declared.symbol.Word.TheVariants as word
-use Rattle.ax_lines.specs.declared.symbol.Punctuation.TheVariants as mark
-use Rattle.ax_lines.specs.declared.pass.Pass.TheVariants as pass
+use Rattle.ax_module.specs.WellFormed.{Scope, is_type, is_operand, is_typed, is_base, is_step, is_addr}
+use Rattle.ax_module.specs.Ranges.{is_word, is_in_range, is_step_in_range, is_addr_in_range}
+use Rattle.ax_symbols.specs.declared.symbol.Sign.{Sign}
+use Rattle.ax_symbols.specs.declared.symbol.Sign.TheVariants as sign
+use Rattle.ax_symbols.specs.declared.vocabulary.Word.TheVariants as word
+use Rattle.ax_symbols.specs.declared.symbol.Punctuation.TheVariants as mark
+use Rattle.ax_symbols.specs.declared.pass.Pass.TheVariants as pass
 use Rattle.ax_lines.specs.declared.statement.Path.{Path}
-use Rattle.ax_lines.specs.Signs.{same_sign, same_mark}
-use Rattle.ax_lines.specs.Symbols.{word_of, int_or_word, global_sign}
-use Rattle.ax_lines.specs.declared.symbol.Punctuation.{Punctuation}
-use Rattle.ax_lines.specs.declared.pass.Pass.{Pass}
+use Rattle.ax_symbols.specs.Signs.{same_sign, same_mark}
+use Rattle.ax_symbols.specs.Symbols.{word_of, int_or_word, global_sign}
+use Rattle.ax_symbols.specs.declared.symbol.Punctuation.{Punctuation}
+use Rattle.ax_symbols.specs.declared.pass.Pass.{Pass}
 use Rattle.ax_again.proofs.Numerals.{width_sign}
-use Rattle.ax_lines.specs.Grammar.{typed}
+use Rattle.ax_symbols.specs.Grammar.{typed}
 use Rattle.ax_lines.specs.Productions.{elements, count_or, first_index, path, pointer_behind, pointer_operand}
 use Rattle.ax_scope.specs.Resolve as resolve
 use Rattle.ax_scope.specs.Resolve.{Looks, operand_of, addr_of}

@@ -1,14 +1,14 @@
 -- What a grammar makes of a line's tokens, from its first to those that are left.
 use Rattle.std.proofs.Common.{◌≡◌, ℕ, zero, suc, Bool, true, false, cond, ◌&&◌, List, [], ◌∷◌, ◌++◌, Option, Some, refl, sym, ap, ap₂, subst, ◌∙◌, inl, inr, true≢false}
-use Rattle.ax_lines.specs.declared.symbol.Sign.{Sign}
-use Rattle.ax_lines.specs.declared.symbol.Sign.TheVariants as sign
-use Rattle.ax_lines.specs.declared.symbol.Symbol.{Symbol}
-use Rattle.ax_lines.specs.declared.pass.Pass.{Pass}
-use Rattle.ax_lines.specs.Symbols.{sign_of, name_of}
-use Rattle.ax_lines.specs.Signs.{same_sign}
-use Rattle.ax_lines.specs.Pieces.{sign_at, is_passed, has_captures, has_alignment, is_captures, is_align, is_dereferenceable, item_len, pass_over}
-use Rattle.ax_lines.specs.Grammar.{Grammar, gives, then, signs, one, passed, when, option, by, tail, ends, signs_of, Splits, Derives}
-use Rattle.ax_lines.proofs.SameSign.{decides_sign}
+use Rattle.ax_symbols.specs.declared.symbol.Sign.{Sign}
+use Rattle.ax_symbols.specs.declared.symbol.Sign.TheVariants as sign
+use Rattle.ax_symbols.specs.declared.symbol.Symbol.{Symbol}
+use Rattle.ax_symbols.specs.declared.pass.Pass.{Pass}
+use Rattle.ax_symbols.specs.Symbols.{sign_of, name_of}
+use Rattle.ax_symbols.specs.Signs.{same_sign}
+use Rattle.ax_symbols.specs.Pieces.{sign_at, is_passed, has_captures, has_alignment, is_captures, is_align, is_dereferenceable, item_len, pass_over}
+use Rattle.ax_symbols.specs.Grammar.{Grammar, gives, then, signs, one, passed, when, option, by, tail, ends, signs_of, Splits, Derives}
+use Rattle.ax_symbols.proofs.SameSign.{decides_sign}
 use Rattle.ax_scope.specs.Names.{text_at}
 use Rattle.ax_again.specs.Pieces.{kind_of}
 

@@ -3,28 +3,28 @@ use Rattle.std.proofs.Common.{◌≡◌, ℕ, Bool, true, Option, Some, None, Li
 use Rattle.std.specs.Prelude.{not, ◌&&◌, codes}
 use Rattle.std.specs.List.{list_all}
 use Rattle.std.proofs.lemmas.Bool.{and_parts}
-use Rattle.ax_ops.specs.declared.operation.RmwOp.{RmwOp}
-use Rattle.ax_ops.specs.declared.operation.RmwOp.TheVariants as rmw
-use Rattle.ax_ops.specs.declared.order.Order.{Order}
-use Rattle.ax_ops.specs.declared.order.Order.TheVariants as order
-use Rattle.ax_ops.specs.Operation.{operation_word}
-use Rattle.ax_ops.specs.Orders.{order_word}
-use Rattle.ax_ir.specs.declared.types.Ty.{Ty}
-use Rattle.ax_ir.specs.declared.operand.Operand.{Operand}
-use Rattle.ax_ir.specs.declared.inst.BinOp.{BinOp}
-use Rattle.ax_ir.specs.declared.inst.BinOp.TheVariants as bin
-use Rattle.ax_ir.specs.declared.inst.Pred.{Pred}
-use Rattle.ax_ir.specs.declared.inst.Pred.TheVariants as pred
-use Rattle.ax_ir.specs.declared.inst.Cast.{Cast}
-use Rattle.ax_ir.specs.declared.inst.Cast.TheVariants as cast
-use Rattle.ax_ir.specs.declared.inst.Inst.{Inst}
-use Rattle.ax_ir.specs.declared.inst.Inst.TheVariants.{Bin, Icmp, Select, Convert, Phi, Jump, Branch, RetVoid, Ret, Unreachable, Alloca, Gep, Load, LoadAtomic, Store, StoreAtomic, Cmpxchg, Rmw, Fence, Extract, Call}
-use Rattle.ax_ir.specs.Kinds.{has_result}
-use Rattle.ax_ir.specs.Names.{is_name}
+use Rattle.ax_words.specs.declared.operation.RmwOp.{RmwOp}
+use Rattle.ax_words.specs.declared.operation.RmwOp.TheVariants as rmw
+use Rattle.ax_words.specs.declared.order.Order.{Order}
+use Rattle.ax_words.specs.declared.order.Order.TheVariants as order
+use Rattle.ax_words.specs.Operation.{operation_word}
+use Rattle.ax_words.specs.Orders.{order_word}
+use Rattle.ax_module.specs.declared.types.Ty.{Ty}
+use Rattle.ax_module.specs.declared.operand.Operand.{Operand}
+use Rattle.ax_module.specs.declared.inst.BinOp.{BinOp}
+use Rattle.ax_module.specs.declared.inst.BinOp.TheVariants as bin
+use Rattle.ax_module.specs.declared.inst.Pred.{Pred}
+use Rattle.ax_module.specs.declared.inst.Pred.TheVariants as pred
+use Rattle.ax_module.specs.declared.inst.Cast.{Cast}
+use Rattle.ax_module.specs.declared.inst.Cast.TheVariants as cast
+use Rattle.ax_module.specs.declared.inst.Inst.{Inst}
+use Rattle.ax_module.specs.declared.inst.Inst.TheVariants.{Bin, Icmp, Select, Convert, Phi, Jump, Branch, RetVoid, Ret, Unreachable, Alloca, Gep, Load, LoadAtomic, Store, StoreAtomic, Cmpxchg, Rmw, Fence, Extract, Call}
+use Rattle.ax_module.specs.Kinds.{has_result}
+use Rattle.ax_module.specs.Names.{is_name}
 use Rattle.ax_ir.specs.OperandTokens.{arg_tokens}
 use Rattle.ax_ir.specs.InstTokens.{entry_tokens, result_type_tokens, weak_tokens, scope_tokens, pair_tokens, inst_tokens, result_tokens, numbered_inst_tokens}
-use Rattle.ax_ir.specs.WellFormed.{Scope, begins_with, is_type, is_typed, is_base, is_addr, is_arg, is_result_type, is_callee_name, is_inst}
-use Rattle.ax_ir.specs.Words.{binary_word, condition_word, cast_word}
+use Rattle.ax_module.specs.WellFormed.{Scope, begins_with, is_type, is_typed, is_base, is_addr, is_arg, is_result_type, is_callee_name, is_inst}
+use Rattle.ax_module.specs.Words.{binary_word, condition_word, cast_word}
 use Rattle.ax_again.proofs.Fit.{IsFit, Fit, empty, also, both, word, last, one, either, parted_where, parted_all}
 use Rattle.ax_again.proofs.Bytes.{decimal_fit, value_fit, block_fit, global_fit}
 use Rattle.ax_again.proofs.Operands.{NamesFit, type_fit, elements_fit, align_fit, labels_fit, operand_fit, typed_fit, base_fit, gep_fit, addr_fit, arg_fit}

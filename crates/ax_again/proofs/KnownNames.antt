@@ -5,18 +5,18 @@ use Rattle.std.specs.Str.{bytes_eq}
 use Rattle.std.proofs.lemmas.Bool.{and_parts, not-true, eqb-true, ltb-true, false_from_ne_true, or_parts, eq-eqb}
 use Rattle.std.proofs.lemmas.Slice.Eq.{bytes_eq-Decides}
 use Rattle.std.proofs.lemmas.Fmt.{decimal_injective}
-use Rattle.ax_ir.specs.declared.types.Ty.{Ty}
-use Rattle.ax_ir.specs.declared.inst.Inst.{Inst}
-use Rattle.ax_ir.specs.declared.module.Global.{Global}
-use Rattle.ax_ir.specs.declared.module.Block.{Block}
-use Rattle.ax_ir.specs.declared.module.Function.{Function}
-use Rattle.ax_ir.specs.Kinds.{has_result}
-use Rattle.ax_ir.specs.Names.{global_token}
+use Rattle.ax_module.specs.declared.types.Ty.{Ty}
+use Rattle.ax_module.specs.declared.inst.Inst.{Inst}
+use Rattle.ax_module.specs.declared.module.Global.{Global}
+use Rattle.ax_module.specs.declared.module.Block.{Block}
+use Rattle.ax_module.specs.declared.module.Function.{Function}
+use Rattle.ax_module.specs.Kinds.{has_result}
+use Rattle.ax_module.specs.Names.{global_token}
 use Rattle.ax_ir.specs.Canonical.{names_tokens}
-use Rattle.ax_ir.specs.WellFormed.{has_result_at, all_differ, insts_of, scope_of}
+use Rattle.ax_module.specs.WellFormed.{has_result_at, all_differ, insts_of, scope_of}
 use Rattle.ax_scope.specs.declared.meaning.Meaning.{Meaning}
 use Rattle.ax_scope.specs.declared.meaning.Meaning.TheVariants as meaning
-use Rattle.ax_scope.specs.Scope.{look}
+use Rattle.ax_scope.specs.NameTable.{look}
 use Rattle.ax_scope.specs.Names.{declared}
 use Rattle.ax_read.proofs.NamesDiffer.{differ_sym}
 use Rattle.ax_again.proofs.EatPieces.{Known}

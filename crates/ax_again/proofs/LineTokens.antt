@@ -8,17 +8,17 @@ use Rattle.std.proofs.lemmas.Bool.{and_parts, ltb-true}
 use Rattle.ax_lex.specs.Tokens.{AreTokens}
 use Rattle.ax_lex.specs.Written.{tokens_at, FitsText}
 use Rattle.ax_lex.proofs.Rendered.{rendered}
-use Rattle.ax_ir.specs.declared.types.Ty.{Ty}
-use Rattle.ax_ir.specs.declared.operand.Operand.{Operand}
-use Rattle.ax_ir.specs.declared.inst.Inst.{Inst}
-use Rattle.ax_ir.specs.declared.module.Global.{Global}
-use Rattle.ax_ir.specs.declared.module.Block.{Block}
-use Rattle.ax_ir.specs.declared.module.Function.{Function}
-use Rattle.ax_ir.specs.declared.module.Module.{Module}
-use Rattle.ax_ir.specs.Names.{is_name, global_token}
+use Rattle.ax_module.specs.declared.types.Ty.{Ty}
+use Rattle.ax_module.specs.declared.operand.Operand.{Operand}
+use Rattle.ax_module.specs.declared.inst.Inst.{Inst}
+use Rattle.ax_module.specs.declared.module.Global.{Global}
+use Rattle.ax_module.specs.declared.module.Block.{Block}
+use Rattle.ax_module.specs.declared.module.Function.{Function}
+use Rattle.ax_module.specs.declared.module.Module.{Module}
+use Rattle.ax_module.specs.Names.{is_name, global_token}
 use Rattle.ax_ir.specs.OperandTokens.{typed_tokens}
 use Rattle.ax_ir.specs.InstTokens.{numbered_inst_tokens}
-use Rattle.ax_ir.specs.WellFormed.{Scope, begins_with, is_global_name, is_function_name, is_type, is_bit, is_nonempty, is_inst, is_order, is_block, is_function, is_init, is_global, all_differ, names_of, IsModule, scope_of}
+use Rattle.ax_module.specs.WellFormed.{Scope, begins_with, is_global_name, is_function_name, is_type, is_bit, is_nonempty, is_inst, is_order, is_block, is_function, is_init, is_global, all_differ, names_of, IsModule, scope_of}
 use Rattle.ax_ir.specs.Canonical.{flush, indented, init_tokens, global_tokens, later_params_tokens, params_tokens, function_result_tokens, define_tokens, label_line, inst_lines, blocks_lines, function_lines, global_line, names_tokens, module_lines, module_text}
 use Rattle.ax_again.specs.Pieces.{pieces_of}
 use Rattle.ax_again.proofs.Pieces.{pieces_written}

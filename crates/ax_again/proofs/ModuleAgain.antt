@@ -4,25 +4,25 @@ use Rattle.std.specs.Prelude.{is_none}
 use Rattle.std.specs.List.{list_all, list_any}
 use Rattle.std.specs.Str.{bytes_eq}
 use Rattle.std.proofs.lemmas.Bool.{and_parts, or_parts, or_from, not-true}
-use Rattle.ax_ir.specs.declared.types.Ty.{Ty}
-use Rattle.ax_ir.specs.declared.types.Ty.TheVariants as ty
-use Rattle.ax_ir.specs.declared.operand.Operand.{Operand}
-use Rattle.ax_ir.specs.declared.module.Global.{Global}
-use Rattle.ax_ir.specs.declared.module.Block.{Block}
-use Rattle.ax_ir.specs.declared.module.Function.{Function}
-use Rattle.ax_ir.specs.declared.module.Module.{Module}
+use Rattle.ax_module.specs.declared.types.Ty.{Ty}
+use Rattle.ax_module.specs.declared.types.Ty.TheVariants as ty
+use Rattle.ax_module.specs.declared.operand.Operand.{Operand}
+use Rattle.ax_module.specs.declared.module.Global.{Global}
+use Rattle.ax_module.specs.declared.module.Block.{Block}
+use Rattle.ax_module.specs.declared.module.Function.{Function}
+use Rattle.ax_module.specs.declared.module.Module.{Module}
 use Rattle.ax_ir.specs.Canonical.{line_text, function_lines, global_line, names_tokens, module_lines, module_text}
-use Rattle.ax_ir.specs.WellFormed.{is_function_name, is_type, is_bit, is_nonempty, is_inst, is_order, is_block, is_function, is_global, scope_of, all_differ, names_of, IsModule}
-use Rattle.ax_ir.specs.Ranges.{is_function_in_range, is_global_in_range}
+use Rattle.ax_module.specs.WellFormed.{is_count, is_function_counted, is_function_name, is_type, is_bit, is_nonempty, is_inst, is_order, is_block, is_function, is_global, scope_of, all_differ, names_of, IsModule}
+use Rattle.ax_module.specs.Ranges.{is_function_in_range, is_global_in_range}
 use Rattle.ax_lex.specs.Written.{tokens_at}
-use Rattle.ax_lines.specs.declared.symbol.Span.{Span}
-use Rattle.ax_lines.specs.declared.symbol.Symbol.{Symbol}
+use Rattle.ax_symbols.specs.declared.symbol.Span.{Span}
+use Rattle.ax_symbols.specs.declared.symbol.Symbol.{Symbol}
 use Rattle.ax_lines.specs.declared.statement.Line.{Line}
 use Rattle.ax_lines.specs.declared.statement.Line.TheVariants as line
 use Rattle.ax_lines.specs.Lines.{AreLines}
 use Rattle.ax_scope.specs.declared.meaning.Meaning.{Meaning}
 use Rattle.ax_scope.specs.declared.meaning.Meaning.TheVariants as meaning
-use Rattle.ax_scope.specs.Scope.{look, is_among}
+use Rattle.ax_scope.specs.NameTable.{look, is_among}
 use Rattle.ax_scope.specs.Names.{text_at, is_inner, inside_of, global_name, count_some, declared, globals_from}
 use Rattle.ax_scope.specs.Resolve.{Looks}
 use Rattle.ax_scope.specs.Faults.{again, looks_of, faults_from, AllFalse}
@@ -41,7 +41,7 @@ use Rattle.ax_again.proofs.StatedLines.{AreBlocks, Closes, AreFunctions, AreGlob
 use Rattle.ax_again.proofs.KnownNames.{known_is, differ_front}
 use Rattle.ax_again.proofs.Tables.{Nil, split_body, inner_blocks, inside_front, blocks_again}
 use Rattle.ax_again.proofs.NoFaults.{Fits, FitEach, among_more, drop_front, looks_are, functions_fit, globals_fit}
-use Rattle.ax_again.proofs.Bounds.{fits_each, len_append}
+use Rattle.ax_again.proofs.Bounds.{fits_each}
 
 -- ---- names that differ
 
@@ -244,11 +244,8 @@ known_each text gs (f ∷ fs) d b = (known_is text gs f d (omega (arith, b.0.par
 abbrev made_module : List Global → List Function → Module
 made_module gs fs = record { globals = gs; functions = fs }
 
-lines_short : (m : Module) → length (module_text m) < 2 ^ 32 - 1 → length (flat_map line_text (flat_map (function_lines (names_tokens m.globals)) m.functions)) < 2 ^ 32 - 1
-lines_short m h = let e = len_append (map global_line m.globals) (flat_map (function_lines (names_tokens m.globals)) m.functions) in omega (arith, e, h)
-
-pub module_derived : (m : Module) → IsModule m → length (module_text m) < 2 ^ 32 - 1 → Derives (module_text m) m
-module_derived m h short =
+pub module_derived : (m : Module) → IsModule m → Derives (module_text m) m
+module_derived m h =
     let text : List ℕ = module_text m in
     let gs = m.globals in
     let fs = m.functions in
@@ -258,7 +255,8 @@ module_derived m h short =
     let front = and_parts (all_differ (names_of m)) (list_all is_global gs) parts.0 in
     let ranges = and_parts (list_all is_global_in_range gs) (list_all is_function_in_range fs) h.numbers in
     let differ = differ_front (map (λ g. g.name) gs) (map (λ f. f.name) fs) front.0 in
-    let fit = fits_each text gs (names_tokens gs) count fs parts.1 (lines_short m short) in
+    let counts = and_parts (is_count (length gs) && is_count (length fs)) (list_all is_function_counted fs) h.counts in
+    let fit = fits_each text gs count fs parts.1 counts.1 in
     let eaten = globals_eaten text gs gs (flat_map (function_lines (names_tokens gs)) fs) K front.1 ranges.0 (functions_eaten text gs fs parts.1 ranges.1 (known_each text gs fs differ fit)) in
     let y = eaten.holds (lines_at 0 (module_lines m)) (module_spelled m (module_fit m h)) in
     let table : globals_from text 0 y.0 ≡ can_globals 0 gs = from_again text 0 gs K y.0 (λ k ls g. (functions_none text (can_looks text gs) fs ls g).1 k) y.2 in
@@ -271,4 +269,5 @@ module_derived m h short =
       says = record { tokens = tokens_at 0 (pieces_of m); are_tokens = tokens_again m h; are_lines = subst (λ (ls : List (List Symbol)). AreLines ls y.0) (sym (lines_again m)) y.1 };
       names = subst (λ (es : List (List ℕ × Meaning)). AllFalse (faults_from text (look es) [] None y.0)) (sym table) names;
       is = sym (ap₂ made_module globals (ap (λ (es : List (List ℕ × Meaning)). functions_in text (look es) y.0) table ∙ functions));
+      counts = h.counts;
     }

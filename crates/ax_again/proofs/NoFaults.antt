@@ -6,19 +6,19 @@ use Rattle.std.specs.Option.{option_to_list}
 use Rattle.std.specs.Str.{bytes_eq}
 use Rattle.std.proofs.lemmas.Bool.{and_parts, or_parts, or_from, not-true}
 use Rattle.std.proofs.lemmas.List.{length-append}
-use Rattle.ax_ir.specs.declared.types.Ty.{Ty}
-use Rattle.ax_ir.specs.declared.inst.Inst.{Inst}
-use Rattle.ax_ir.specs.declared.module.Global.{Global}
-use Rattle.ax_ir.specs.declared.module.Block.{Block}
-use Rattle.ax_ir.specs.declared.module.Function.{Function}
-use Rattle.ax_ir.specs.Names.{is_name}
-use Rattle.ax_ir.specs.Kinds.{has_result}
-use Rattle.ax_ir.specs.WellFormed.{is_function_name, insts_of}
-use Rattle.ax_lines.specs.declared.symbol.Span.{Span}
+use Rattle.ax_module.specs.declared.types.Ty.{Ty}
+use Rattle.ax_module.specs.declared.inst.Inst.{Inst}
+use Rattle.ax_module.specs.declared.module.Global.{Global}
+use Rattle.ax_module.specs.declared.module.Block.{Block}
+use Rattle.ax_module.specs.declared.module.Function.{Function}
+use Rattle.ax_module.specs.Names.{is_name}
+use Rattle.ax_module.specs.Kinds.{has_result}
+use Rattle.ax_module.specs.WellFormed.{is_function_name, insts_of}
+use Rattle.ax_symbols.specs.declared.symbol.Span.{Span}
 use Rattle.ax_lines.specs.declared.statement.Line.{Line}
 use Rattle.ax_lines.specs.declared.statement.Line.TheVariants as line
 use Rattle.ax_scope.specs.declared.meaning.Meaning.{Meaning}
-use Rattle.ax_scope.specs.Scope.{look, is_among}
+use Rattle.ax_scope.specs.NameTable.{look, is_among}
 use Rattle.ax_scope.specs.Names.{text_at, is_inner, inside_of, entry_name, result_name, block_name, first_behind}
 use Rattle.ax_scope.specs.Resolve.{Looks}
 use Rattle.ax_scope.specs.Faults.{again, outer_name, param_names, is_reserved, outer_fault, Body, looks_of, body_of, names_of, stated, body_fault, body_behind, body_faults, body_begun, faults_from, AllFalse}
@@ -135,7 +135,7 @@ params_again text k (t ∷ ts) (p ∷ ps) s f b h =
 
 -- ---- functions
 
--- a function of a text of fewer than 2 ^ 32 bytes
+-- a function whose counts have 32 bits
 pub record Fits (f : Function) : Type 0 where
   pub params : length f.params < 2 ^ 32
   pub insts : length (insts_of f) ≤ 2 ^ 64
@@ -164,7 +164,7 @@ module _ (text : List ℕ) (gs : List Global) where
   pub looks_are : (f : Function) (ps : List (Ty × Span)) (front : List Line) → Fits f → AreParams text 0 f.params ps → AreBlocks (can_looks text gs f) 0 0 f.blocks Nil front → looks_of text G ps front ≡ can_looks text gs f
   looks_are f ps front b p h =
       let x = can_looks text gs f in
-      ap₂ made_looks (ap₂ (λ (xs ys : List (List ℕ × Meaning)). xs ++ ys) (params_are text 0 f.params ps (omega (arith, b.params)) p) (blocks_results x 0 0 f.blocks front h)) (blocks_blocks x (entry_name text ps) true 0 0 f.blocks front h)
+      ap₂ made_looks (ap₂ (λ (xs ys : List (List ℕ × Meaning)). xs ++ ys) (params_are text 0 f.params ps p) (blocks_results x 0 0 f.blocks front h)) (blocks_blocks x (entry_name text ps) true 0 0 f.blocks front h)
 
   body_fits : (f : Function) (ps : List (Ty × Span)) (front : List Line) → Fits f → AreParams text 0 f.params ps → AreBlocks (can_looks text gs f) 0 0 f.blocks Nil front → AllFalse (body_faults (body_of text G ps front) front)
   body_fits f ps front b p h =

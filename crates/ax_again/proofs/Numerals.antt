@@ -8,8 +8,9 @@ use Rattle.std.specs.List.{list_all}
 use Rattle.ax_lex.specs.Bytes.{is_digit}
 use Rattle.ax_lex.specs.Tokens.{some_all}
 use Rattle.ax_lex.specs.declared.token.TokenKind.TheVariants as kind
-use Rattle.ax_lines.specs.declared.symbol.Sign.TheVariants as sign
-use Rattle.ax_lines.specs.Symbols.{number_from, number_of, number_or_odd, width_of, int_or_word, name_of}
+use Rattle.ax_symbols.specs.declared.symbol.Sign.TheVariants as sign
+use Rattle.ax_lex.specs.Numbers.{number_from, number_of}
+use Rattle.ax_symbols.specs.Symbols.{number_or_odd, width_of, int_or_word, name_of}
 use Rattle.ax_again.proofs.Eats.{token_sign}
 use Rattle.ax_again.proofs.Bytes.{decimal_digits, digit_starts}
 

@@ -2,17 +2,17 @@
 use Rattle.std.proofs.Common.{◌≡◌, ℕ, true, Option, Some, None, List, [], refl}
 use Rattle.std.specs.Prelude.{◌==◌, nat_lt, codes, slice_index_or}
 use Rattle.std.proofs.lemmas.Bool.{and_parts}
-use Rattle.ax_ir.specs.declared.types.Ty.{Ty}
-use Rattle.ax_ir.specs.declared.types.Ty.TheVariants as ty
-use Rattle.ax_ir.specs.declared.operand.Operand.{Operand}
-use Rattle.ax_ir.specs.declared.operand.Operand.TheVariants as operand
-use Rattle.ax_ir.specs.declared.operand.Base.{Base}
-use Rattle.ax_ir.specs.declared.operand.Base.TheVariants as base
-use Rattle.ax_ir.specs.declared.operand.Addr.{Addr}
-use Rattle.ax_ir.specs.declared.operand.Arg.{Arg}
-use Rattle.ax_ir.specs.declared.operand.Arg.TheVariants as arg
+use Rattle.ax_module.specs.declared.types.Ty.{Ty}
+use Rattle.ax_module.specs.declared.types.Ty.TheVariants as ty
+use Rattle.ax_module.specs.declared.operand.Operand.{Operand}
+use Rattle.ax_module.specs.declared.operand.Operand.TheVariants as operand
+use Rattle.ax_module.specs.declared.operand.Base.{Base}
+use Rattle.ax_module.specs.declared.operand.Base.TheVariants as base
+use Rattle.ax_module.specs.declared.operand.Addr.{Addr}
+use Rattle.ax_module.specs.declared.operand.Arg.{Arg}
+use Rattle.ax_module.specs.declared.operand.Arg.TheVariants as arg
 use Rattle.ax_ir.specs.OperandTokens.{type_tokens, array_tokens, elements_tokens, align_tokens, label_tokens, operand_token, typed_tokens, base_token, pointer_tokens, gep_tokens, constant_gep_tokens, step_tokens, addr_tokens, arg_tokens}
-use Rattle.ax_ir.specs.WellFormed.{Scope, is_base, is_step, is_addr, is_arg}
+use Rattle.ax_module.specs.WellFormed.{Scope, is_base, is_step, is_addr, is_arg}
 use Rattle.ax_again.proofs.Fit.{IsFit, Fit, empty, also, both, word, last, one, either}
 use Rattle.ax_again.proofs.Bytes.{decimal_fit, signed_fit, width_fit, value_fit, param_fit, block_fit}
 

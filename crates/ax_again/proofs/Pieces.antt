@@ -2,7 +2,7 @@
 use Rattle.std.proofs.Common.{◌≡◌, ℕ, Bool, false, List, [], ◌∷◌, ◌++◌, refl, sym, ap, ap₂, ◌∙◌, append_assoc, append-nil, flat_map}
 use Rattle.std.specs.Prelude.{not}
 use Rattle.ax_lex.specs.Written.{Piece, render}
-use Rattle.ax_ir.specs.declared.module.Module.{Module}
+use Rattle.ax_module.specs.declared.module.Module.{Module}
 use Rattle.ax_ir.specs.Spacing.{is_opening, spaced_from}
 use Rattle.ax_ir.specs.Canonical.{Line, line_text, module_lines, module_text}
 use Rattle.ax_again.specs.Pieces.{indent, blank_before, token_pieces, line_pieces, pieces_of}

@@ -11,10 +11,10 @@ use Rattle.ax_lex.specs.Tokens as lex
 use Rattle.ax_lex.specs.Tokens.{goes_on, is_token, is_closed}
 use Rattle.ax_ir.specs.Spacing.{is_opening, spaced_from}
 use Rattle.ax_ir.specs.Canonical.{Line, line_text}
-use Rattle.ax_ir.specs.declared.module.Module.{Module}
+use Rattle.ax_module.specs.declared.module.Module.{Module}
 use Rattle.ax_ir.specs.Canonical.{module_lines, module_text}
-use Rattle.ax_lines.specs.declared.symbol.Symbol.{Symbol}
-use Rattle.ax_lines.specs.Symbols.{sides, sides_of, begins_quote, within}
+use Rattle.ax_symbols.specs.declared.symbol.Symbol.{Symbol}
+use Rattle.ax_symbols.specs.Symbols.{sides, sides_of, begins_quote, within}
 use Rattle.ax_read.proofs.SoundTokens.{name_bytes, sides_fit}
 use Rattle.ax_again.specs.Pieces.{kind_from, kind_of, blank_before, indent}
 use Rattle.ax_again.specs.Places.{token_symbol, token_symbols, lines_at}

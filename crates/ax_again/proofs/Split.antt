@@ -10,14 +10,14 @@ use Rattle.ax_lex.specs.declared.token.TokenKind.TheVariants as kind
 use Rattle.ax_lex.specs.Bytes.{start_of}
 use Rattle.ax_lex.specs.Tokens.{text_at}
 use Rattle.ax_lex.specs.Written.{Piece, render, tokens_at}
-use Rattle.ax_ir.specs.declared.module.Module.{Module}
+use Rattle.ax_module.specs.declared.module.Module.{Module}
 use Rattle.ax_ir.specs.Spacing.{is_opening}
 use Rattle.ax_ir.specs.Canonical.{Line, line_text, module_lines, module_text}
-use Rattle.ax_lines.specs.declared.symbol.Punctuation.TheVariants as mark
-use Rattle.ax_lines.specs.declared.symbol.Sign.{Sign}
-use Rattle.ax_lines.specs.declared.symbol.Sign.TheVariants as sign
-use Rattle.ax_lines.specs.declared.symbol.Symbol.{Symbol}
-use Rattle.ax_lines.specs.Symbols.{number_or_odd, literal_sign, int_or_word, width_of, name_of, global_sign, text_sign, mark_sign, sign_of, symbol_in, symbol_of, feed_sign, is_feed}
+use Rattle.ax_symbols.specs.declared.symbol.Punctuation.TheVariants as mark
+use Rattle.ax_symbols.specs.declared.symbol.Sign.{Sign}
+use Rattle.ax_symbols.specs.declared.symbol.Sign.TheVariants as sign
+use Rattle.ax_symbols.specs.declared.symbol.Symbol.{Symbol}
+use Rattle.ax_symbols.specs.Symbols.{number_or_odd, literal_sign, int_or_word, width_of, name_of, global_sign, text_sign, mark_sign, sign_of, symbol_in, symbol_of, feed_sign, is_feed}
 use Rattle.ax_lines.specs.Lines.{lines_of}
 use Rattle.std.specs.Str.{bytes_eq}
 use Rattle.ax_again.specs.Pieces.{kind_from, kind_of, indent, blank_before, token_pieces, line_pieces, pieces_of}

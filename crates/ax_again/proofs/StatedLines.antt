@@ -2,30 +2,30 @@
 use Rattle.std.proofs.Common.{◌≡◌, ℕ, suc, ◌+◌, arith, Bool, true, false, cond, ◌&&◌, not, List, [], ◌∷◌, ◌++◌, length, map, flat_map, drop, Option, Some, None, refl, sym, ap, subst, ◌∙◌, codes, decimal, append_assoc, true≢false}
 use Rattle.std.specs.List.{list_all, prefix_len}
 use Rattle.std.proofs.lemmas.Bool.{and_parts}
-use Rattle.ax_ir.specs.declared.types.Ty.{Ty}
-use Rattle.ax_ir.specs.declared.inst.Inst.{Inst}
-use Rattle.ax_ir.specs.declared.inst.Inst.TheVariants as inst
-use Rattle.ax_ir.specs.declared.module.Global.{Global}
-use Rattle.ax_ir.specs.declared.module.Block.{Block}
-use Rattle.ax_ir.specs.declared.module.Function.{Function}
-use Rattle.ax_ir.specs.Kinds.{is_phi, is_terminator, has_result}
+use Rattle.ax_module.specs.declared.types.Ty.{Ty}
+use Rattle.ax_module.specs.declared.inst.Inst.{Inst}
+use Rattle.ax_module.specs.declared.inst.Inst.TheVariants as inst
+use Rattle.ax_module.specs.declared.module.Global.{Global}
+use Rattle.ax_module.specs.declared.module.Block.{Block}
+use Rattle.ax_module.specs.declared.module.Function.{Function}
+use Rattle.ax_module.specs.Kinds.{is_phi, is_terminator, has_result}
 use Rattle.ax_ir.specs.Canonical as canon
 use Rattle.ax_ir.specs.Canonical.{flush, indented, global_tokens, define_tokens, label_line, inst_lines, block_lines, blocks_lines, function_lines, global_line, names_tokens, module_lines}
-use Rattle.ax_ir.specs.WellFormed.{Scope, is_inst, is_body, is_order, is_block, is_nonempty, is_type, is_bit, is_result_type, is_function_name, is_function, is_global, insts_of, scope_of}
-use Rattle.ax_ir.specs.Ranges.{is_inst_in_range, is_function_in_range, is_global_in_range}
-use Rattle.ax_lines.specs.declared.symbol.Symbol.{Symbol}
-use Rattle.ax_lines.specs.declared.symbol.Span.{Span}
+use Rattle.ax_module.specs.WellFormed.{Scope, is_inst, is_body, is_order, is_block, is_nonempty, is_type, is_bit, is_result_type, is_function_name, is_function, is_global, insts_of, scope_of}
+use Rattle.ax_module.specs.Ranges.{is_inst_in_range, is_function_in_range, is_global_in_range}
+use Rattle.ax_symbols.specs.declared.symbol.Symbol.{Symbol}
+use Rattle.ax_symbols.specs.declared.symbol.Span.{Span}
 use Rattle.ax_lines.specs.declared.statement.Statement.{Statement}
 use Rattle.ax_lines.specs.declared.statement.Line.{Line}
 use Rattle.ax_lines.specs.declared.statement.Line.TheVariants as line
 use Rattle.ax_lines.specs.declared.statement.Place.{Place}
 use Rattle.ax_lines.specs.declared.statement.Place.TheVariants as place
 use Rattle.ax_lines.specs.Lines.{InPlace}
-use Rattle.ax_lines.specs.Grammar.{by, Derives}
+use Rattle.ax_symbols.specs.Grammar.{by, Derives}
 use Rattle.ax_lines.specs.Productions.{line_at, place_after, blank, outside, in_block}
 use Rattle.ax_scope.specs.declared.meaning.Meaning.{Meaning}
 use Rattle.ax_scope.specs.declared.meaning.Meaning.TheVariants as meaning
-use Rattle.ax_scope.specs.Scope.{look}
+use Rattle.ax_scope.specs.NameTable.{look}
 use Rattle.ax_scope.specs.Names.{maybe_at, declared}
 use Rattle.ax_scope.specs.Resolve.{Looks, inst_of}
 use Rattle.ax_read.proofs.Meant.{kind_is}

@@ -3,12 +3,12 @@ use Rattle.std.proofs.Common.{◌≡◌, ℕ, suc, ◌+◌, ◌%◌, ◌^◌, �
 use Rattle.std.specs.List.{list_all, prefix_len}
 use Rattle.std.specs.Option.{option_map}
 use Rattle.std.proofs.lemmas.Bool.{and_parts}
-use Rattle.ax_ir.specs.declared.types.Ty.{Ty}
-use Rattle.ax_ir.specs.declared.inst.Inst.{Inst}
-use Rattle.ax_ir.specs.declared.module.Block.{Block}
-use Rattle.ax_ir.specs.Kinds.{has_result, is_terminator, is_phi}
-use Rattle.ax_ir.specs.WellFormed.{is_nonempty, is_order}
-use Rattle.ax_lines.specs.declared.symbol.Span.{Span}
+use Rattle.ax_module.specs.declared.types.Ty.{Ty}
+use Rattle.ax_module.specs.declared.inst.Inst.{Inst}
+use Rattle.ax_module.specs.declared.module.Block.{Block}
+use Rattle.ax_module.specs.Kinds.{has_result, is_terminator, is_phi}
+use Rattle.ax_module.specs.WellFormed.{is_nonempty, is_order}
+use Rattle.ax_symbols.specs.declared.symbol.Span.{Span}
 use Rattle.ax_lines.specs.declared.statement.Line.{Line}
 use Rattle.ax_lines.specs.declared.statement.Line.TheVariants as line
 use Rattle.ax_scope.specs.declared.meaning.Meaning.{Meaning}
@@ -81,13 +81,12 @@ inside_front (l ∷ front) rest h =
 
 -- ---- the names of a function
 
-pub params_are : (text : List ℕ) (k : ℕ) (ts : List Ty) (ps : List (Ty × Span)) → k + length ts < 2 ^ 32 → AreParams text k ts ps → params_from text k ps ≡ can_params k ts
-params_are text k [] [] b h = refl
-params_are text k [] (p ∷ ps) b h = absurd h
-params_are text k (t ∷ ts) [] b h = absurd h
-params_are text k (t ∷ ts) (p ∷ ps) b h =
-    let e : (k + 1) % 2 ^ 32 ≡ k + 1 = omega (arith, b) in
-    ap₂ (λ (n : List ℕ) (es : List (List ℕ × Meaning)). (n, meaning.Param k) ∷ es) (h.0).1 (ap (λ (j : ℕ). params_from text j ps) e ∙ params_are text (k + 1) ts ps (omega (arith, b)) h.1)
+pub params_are : (text : List ℕ) (k : ℕ) (ts : List Ty) (ps : List (Ty × Span)) → AreParams text k ts ps → params_from text k ps ≡ can_params k ts
+params_are text k [] [] h = refl
+params_are text k [] (p ∷ ps) h = absurd h
+params_are text k (t ∷ ts) [] h = absurd h
+params_are text k (t ∷ ts) (p ∷ ps) h =
+    ap₂ (λ (n : List ℕ) (es : List (List ℕ × Meaning)). (n, meaning.Param k) ∷ es) (h.0).1 (params_are text (k + 1) ts ps h.1)
 
 module _ (x : Looks) where
   inst_result : (n : ℕ) (i : Inst) (l : Line) (ls : List Line) → IsInst x n i l → results_from x.text n (l ∷ ls) ≡ declared (cond (has_result i) (Some (codes "v" ++ decimal n)) None) (meaning.Value n) ++ results_from x.text (n + 1) ls

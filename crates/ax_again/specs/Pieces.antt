@@ -6,7 +6,7 @@ use Rattle.ax_lex.specs.declared.token.TokenKind.{TokenKind}
 use Rattle.ax_lex.specs.declared.token.TokenKind.TheVariants.{Word, Local, Global, Group, Literal, Text, Mark, Newline}
 use Rattle.ax_lex.specs.Bytes.{start_of}
 use Rattle.ax_lex.specs.Written.{Piece}
-use Rattle.ax_ir.specs.declared.module.Module.{Module}
+use Rattle.ax_module.specs.declared.module.Module.{Module}
 use Rattle.ax_ir.specs.Spacing.{is_closing, is_opening}
 use Rattle.ax_ir.specs.Canonical.{Line, module_lines}
 

@@ -2,8 +2,8 @@
 use Rattle.std.specs.Prelude.{ℕ, ◌+◌, Bool, false, not, List, [], ◌∷◌, ◌++◌, length}
 use Rattle.ax_ir.specs.Spacing.{is_opening}
 use Rattle.ax_ir.specs.Canonical.{Line, line_text}
-use Rattle.ax_lines.specs.declared.symbol.Symbol.{Symbol}
-use Rattle.ax_lines.specs.Symbols.{symbol_in}
+use Rattle.ax_symbols.specs.declared.symbol.Symbol.{Symbol}
+use Rattle.ax_symbols.specs.Symbols.{symbol_in}
 use Rattle.ax_again.specs.Pieces.{kind_of, blank_before, indent}
 
 -- the symbol of a token that begins at a place

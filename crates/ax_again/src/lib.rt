@@ -8,6 +8,3 @@ mod tokens;
 pub use derived::{canonical_text_derives_its_module, reread};
 pub use lines::canonical_lines_are_split;
 pub use tokens::{canonical_text_is_its_pieces, canonical_tokens_are_read};
-
-#[cfg(test)]
-mod tests;

@@ -2,7 +2,7 @@
 
 ghost use Rattle.std.specs.Prelude.{◌≡◌};
 ghost use Rattle.ax_lex.specs.Written.{tokens_at};
-ghost use Rattle.ax_ir.specs.declared.module.Module.{Module};
+ghost use Rattle.ax_module.specs.declared.module.Module.{Module};
 ghost use Rattle.ax_ir.specs.Canonical.{module_lines, module_text};
 ghost use Rattle.ax_lines.specs.Lines.{lines_of};
 ghost use Rattle.ax_again.specs.Pieces.{pieces_of};

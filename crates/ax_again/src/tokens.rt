@@ -3,8 +3,8 @@
 ghost use Rattle.std.specs.Prelude.{◌≡◌};
 ghost use Rattle.ax_lex.specs.Tokens.{AreTokens};
 ghost use Rattle.ax_lex.specs.Written.{render, tokens_at, FitsText};
-ghost use Rattle.ax_ir.specs.declared.module.Module.{Module};
-ghost use Rattle.ax_ir.specs.WellFormed.{IsModule};
+ghost use Rattle.ax_module.specs.declared.module.Module.{Module};
+ghost use Rattle.ax_module.specs.WellFormed.{IsModule};
 ghost use Rattle.ax_ir.specs.Canonical.{module_text};
 ghost use Rattle.ax_again.specs.Pieces.{pieces_of};
 

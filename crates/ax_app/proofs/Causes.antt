@@ -2,7 +2,7 @@
 use Rattle.std.proofs.Common.{◌≡◌, ℕ, List, [], ◌∷◌, ◌++◌, Option, Some, sym, ap, subst, ◌∙◌, inl, inr, ⊎_elim, append_assoc}
 use Rattle.std.proofs.lemmas.List.{append-nil}
 use Rattle.ax_io.specs.Count.{Rose}
-use Rattle.ax_ir.specs.declared.module.Module.{Module as ModuleType}
+use Rattle.ax_module.specs.declared.module.Module.{Module as ModuleType}
 use Rattle.ax_read.specs.Derivation.{Derives}
 use Rattle.ax_app.specs.declared.built.Built.{Built}
 use Rattle.ax_app.specs.declared.verdict.Part.TheVariants.{Module, Schedule}
@@ -10,7 +10,9 @@ use Rattle.ax_app.specs.declared.verdict.Verdict.{Verdict}
 use Rattle.ax_app.specs.declared.verdict.Verdict.TheVariants as verdict
 use Rattle.ax_app.specs.Judged.{IsBuiltAs, JudgesRun, RefusesModule, RefusesSource}
 use Rattle.ax_app.specs.Reads.{ReadWhole, ReadFails}
-use Rattle.ax_app.specs.Serve.{Reading, reading, CauseOf, HasAsked, IsBuilt, IsModuleVerdict, IsRunVerdict, OfBoth, OfFile}
+use Rattle.ax_target.specs.declared.target.Target.{Target}
+use Rattle.ax_app.specs.Answers.{command_in, command_of, map_form, run_form}
+use Rattle.ax_app.specs.Serve.{Reading, reading, CauseOf, CauseOfMap, CauseOfRun, HasAsked, IsBuilt, IsModuleVerdict, IsRunVerdict, OfBoth, OfFile}
 
 pub source_refused : (bytes : List ℕ) (m : ModuleType) → Derives bytes m → (v : Verdict) → RefusesSource m v → RefusesModule bytes v
 source_refused bytes m d verdict.Memory h = tt
@@ -25,10 +27,14 @@ source_refused bytes m d (verdict.Name line) h = absurd h
 source_refused bytes m d verdict.Unbuilt h = absurd h
 source_refused bytes m d (verdict.Schedule line why) h = absurd h
 
+-- words of the form that asks for a mapping table
+pub map_judged : (r : Reading) (words : List (List ℕ)) (target : Target) (v : Verdict) → map_form words ≡ Some target → CauseOfMap r target v → CauseOf r (command_of words) v
+map_judged r words target v form h = subst (λ t. CauseOf r (command_in t (run_form words)) v) (sym form) h
+
 module _ (r : Reading) (m s : List ℕ) where
-  pub first_fails : (v : Verdict) → ReadFails r Module m v → CauseOf r (Some (m, s)) v
-  first_fails (verdict.ReadFault p) h = subst (λ q. CauseOf r (Some (m, s)) (verdict.ReadFault q)) (sym h.0) (h.1, h.2, tt)
-  first_fails (verdict.TooLong p) h = subst (λ q. CauseOf r (Some (m, s)) (verdict.TooLong q)) (sym h.0) (h.1, h.2, tt, h.3)
+  pub first_fails : (v : Verdict) → ReadFails r Module m v → CauseOfRun r (m, s) v
+  first_fails (verdict.ReadFault p) h = subst (λ q. CauseOfRun r (m, s) (verdict.ReadFault q)) (sym h.0) (h.1, h.2, tt)
+  first_fails (verdict.TooLong p) h = subst (λ q. CauseOfRun r (m, s) (verdict.TooLong q)) (sym h.0) (h.1, h.2, tt, h.3)
   first_fails verdict.Memory h = ⊎_elim (λ e. inr (inl e)) (λ e. inl (e ∙ sym (append-nil r.asked_before))) h
   first_fails (verdict.Text t) h = absurd h
   first_fails verdict.Usage h = absurd h
@@ -43,7 +49,7 @@ module _ (r : Reading) (m s : List ℕ) where
     told : (v : Verdict) → IsModuleVerdict bytes v → OfFile r Module (m, s) (λ b. IsModuleVerdict b v)
     told v is = λ b held. (h.within b held, subst (λ x. IsModuleVerdict x v) (h.told b held) is)
 
-    pub module_refused : (v : Verdict) → RefusesModule bytes v → CauseOf r (Some (m, s)) v
+    pub module_refused : (v : Verdict) → RefusesModule bytes v → CauseOfRun r (m, s) v
     module_refused verdict.Memory is = inr (inl h.asked)
     module_refused (verdict.Syntax line) is = (h.asked, told (verdict.Syntax line) is)
     module_refused (verdict.Opcode line) is = (h.asked, told (verdict.Opcode line) is)
@@ -77,12 +83,12 @@ module _ (held held_between : List ℕ → Option (List ℕ)) (same : (n : List 
     asked_two : asked_after ≡ asked_between ++ s ∷ [] → HasAsked both (m ∷ s ∷ [])
     asked_two e = e ∙ ap (λ l. l ++ s ∷ []) h.asked ∙ append_assoc asked (m ∷ []) (s ∷ [])
 
-    pub second_fails : (v : Verdict) → ReadFails second Schedule s v → CauseOf both (Some (m, s)) v
+    pub second_fails : (v : Verdict) → ReadFails second Schedule s v → CauseOfRun both (m, s) v
     second_fails (verdict.ReadFault p) k =
-        subst (λ q. CauseOf both (Some (m, s)) (verdict.ReadFault q)) (sym k.0)
+        subst (λ q. CauseOfRun both (m, s) (verdict.ReadFault q)) (sym k.0)
         (asked_two k.1, subst (λ n. Rose n faults_after) h.faults k.2, earlier)
     second_fails (verdict.TooLong p) k =
-        subst (λ q. CauseOf both (Some (m, s)) (verdict.TooLong q)) (sym k.0)
+        subst (λ q. CauseOfRun both (m, s) (verdict.TooLong q)) (sym k.0)
         (asked_two k.1, k.2, earlier, λ b t. k.3 b (same s ∙ t))
     second_fails verdict.Memory k = ⊎_elim (λ e. inr (inr (asked_two e))) (λ e. inr (inl (asked_one e))) k
     second_fails (verdict.Text t) k = absurd k
@@ -99,7 +105,7 @@ module _ (held held_between : List ℕ → Option (List ℕ)) (same : (n : List 
       unfolding earlier
       of_both v run = λ b c t u. (h.within b t, k.within c (same s ∙ u), (earlier b t).1, subst (λ x. IsRunVerdict built.accepted.source x v) (k.told c (same s ∙ u)) run)
 
-      pub run_judged : (v : Verdict) → JudgesRun built.accepted.source schedule v → CauseOf both (Some (m, s)) v
+      pub run_judged : (v : Verdict) → JudgesRun built.accepted.source schedule v → CauseOfRun both (m, s) v
       run_judged verdict.Memory run = inr (inr (asked_two k.asked))
       run_judged (verdict.Text t) run = (asked_two k.asked, of_both (verdict.Text t) run)
       run_judged (verdict.Schedule line why) run = (asked_two k.asked, of_both (verdict.Schedule line why) run)

@@ -4,26 +4,28 @@ use Rattle.std.specs.Prelude.{◌||◌, drop, if◌then◌else◌, nat_eq, slice
 use Rattle.std.proofs.lemmas.List.{append-nil}
 use Rattle.ax_target.specs.declared.target.Target.TheVariants.{Rv}
 use Rattle.ax_store.specs.Bytes.{number_at}
-use Rattle.ax_isa.specs.declared.events.Event.{Event}
 use Rattle.ax_rv.specs.Instructions.{rv_kind}
-use Rattle.ax_ir.specs.declared.module.Module.{Module}
+use Rattle.ax_module.specs.declared.module.Module.{Module}
 use Rattle.ax_layout.specs.declared.span.Span.{Span}
 use Rattle.ax_layout.specs.Classes.{class_of}
 use Rattle.ax_layout.specs.Layout.{LayoutState, count_in, layout_of}
-use Rattle.ax_layout.specs.SourceAccess.{is_native_class, is_native_element}
-use Rattle.ax_layout.specs.SourceState.{SourceProgram}
+use Rattle.ax_source_run.specs.SourceAccess.{is_native_class, is_native_element}
+use Rattle.ax_source_run.specs.SourceState.{SourceProgram}
 use Rattle.ax_first.specs.Alike.{GlobalsAreWords, IsProgramOf, on_rv64, words}
 use Rattle.ax_first.proofs.Places.{native_word, words_at}
 use Rattle.ax_sched.specs.Events.{events_of}
-use Rattle.ax_lower.specs.Agree.{lock_of, number_of}
+use Rattle.ax_agree.specs.Agree.{is_native_entry, lock_of, native_entries, number_of}
 use Rattle.ax_lower.specs.Alike.{BeginAlike}
 use Rattle.ax_lower.specs.Layout.{address_of}
-use Rattle.ax_lower.specs.Lowers.{explanation, machine_run}
+use Rattle.ax_agree.specs.Lowers.{explanation, machine_run}
 use Rattle.ax_isa.specs.declared.images.Image.{Image}
 use Rattle.ax_rv.specs.declared.instructions.RvInstr.{RvInstr}
 use Rattle.ax_first.specs.declared.first.First.{First}
 use Rattle.ax_sched.specs.declared.plan.Plan.{Plan}
-use Rattle.ax_lower.specs.FirstLowers.{run_of, explained_by}
+use Rattle.ax_lower.specs.FirstLowers.{run_of, start_of}
+use Rattle.ax_lower.specs.Settings.{rv_setting}
+use Rattle.ax_isa.specs.Tells.{given_of}
+use Rattle.ax_words.specs.declared.source.SourceEvent.{SourceEvent}
 use Rattle.ax_run.specs.Run.{RunState, IsOf, HasRun}
 use Rattle.ax_isa.specs.Run.{Machine, explain, run, tag_at}
 use Rattle.ax_print.specs.Report.{held_line, object_line, processor_line, lock_line}
@@ -65,16 +67,16 @@ module _ (law : GlobalsAreWords) (source : Module) (program : First) (of : IsPro
   object_next g zero (n ∷ names) d less h = ap (λ l. l ++ object_part (on_rv64 source) mem (g + 1) names) (lines_are g n less)
   object_next g (suc i) (n ∷ names) d less h = object_next g i names d less (omega (arith, h)) ∙ ap (λ k. object_line (slice_index_or names i d) 0 (number_at mem (address_of g) 8) ++ object_part (on_rv64 source) mem (g + 1) (drop k (n ∷ names))) (let e : suc (i + 1) ≡ suc i + 1 = omega arith in e)
 
-processor_suc : (m : Machine) (p n : ℕ) → processor_part m p (suc n) ≡ processor_line p (m.processors p).status (m.processors p).place (m.retired p) (length (m.noted.storage.waiting p)) ++ processor_part m (p + 1) n
+processor_suc : (of : SourceProgram) (m : Machine) (p n : ℕ) → processor_part of m p (suc n) ≡ processor_line p (m.processors p).status (m.processors p).place (m.retired p) (length (native_entries of (m.noted.storage.waiting p))) ++ processor_part of m (p + 1) n
 unfolding processor_part
-processor_suc m p n = refl
+processor_suc of m p n = refl
 
-pub processor_next : (m : Machine) (p n : ℕ) → p < n → processor_part m p (n - p) ≡ processor_line p (m.processors p).status (m.processors p).place (m.retired p) (length (m.noted.storage.waiting p)) ++ processor_part m (p + 1) (n - (p + 1))
-processor_next m p n h = (let e : n - p ≡ suc (n - (p + 1)) = omega (arith, h) in ap (processor_part m p) e) ∙ processor_suc m p (n - (p + 1))
+pub processor_next : (of : SourceProgram) (m : Machine) (p n : ℕ) → p < n → processor_part of m p (n - p) ≡ processor_line p (m.processors p).status (m.processors p).place (m.retired p) (length (native_entries of (m.noted.storage.waiting p))) ++ processor_part of m (p + 1) (n - (p + 1))
+processor_next of m p n h = (let e : n - p ≡ suc (n - (p + 1)) = omega (arith, h) in ap (processor_part of m p) e) ∙ processor_suc of m p (n - (p + 1))
 
-pub processor_none : (m : Machine) (p n : ℕ) → n ≤ p → processor_part m p (n - p) ≡ []
+pub processor_none : (of : SourceProgram) (m : Machine) (p n : ℕ) → n ≤ p → processor_part of m p (n - p) ≡ []
 unfolding processor_part
-processor_none m p n h = (let e : n - p ≡ 0 = omega (arith, h) in ap (processor_part m p) e)
+processor_none of m p n h = (let e : n - p ≡ 0 = omega (arith, h) in ap (processor_part of m p) e)
 
 lock_suc : (m : Machine) (i n : ℕ) → lock_part m i (suc n) ≡ lock_line i (word_of_lock m i) ++ lock_part m (i + 1) n
 unfolding lock_part
@@ -97,19 +99,26 @@ on_ok (Err e) P Q f h = h
 
 -- a run's report once the run has gone
 module _ (source : SourceProgram) (globals : List (List ℕ)) where
+  abbrev told_by : Image RvInstr → First → Plan → List SourceEvent
+  told_by image program plan = explain (rv_setting image) given_of (tag_at image.tags) (is_native_entry source) (events_of false plan) (start_of image program plan.entries)
+
+  abbrev report_by : Image RvInstr → First → Plan → List ℕ
+  report_by image program plan = run_report source globals (length plan.entries) (run_of image program plan.entries (events_of false plan)) (told_by image program plan) (events_of false plan)
+
   pub gone : (r : RunState) (image : Image RvInstr) (program : First) (plan : Plan) → IsOf image program plan r → HasRun r
-      → run_report source globals (length r.plan.entries) (run_of r.machine.image r.program r.plan.entries (events_of false r.plan)) r.machine.sources r.machine.events
-      ≡ run_report source globals (length plan.entries) (run_of image program plan.entries (events_of false plan)) (explained_by image program plan.entries (events_of false plan)) (events_of false plan)
+      → run_report source globals (length r.plan.entries) (run_of r.machine.image r.program r.plan.entries (events_of false r.plan)) r.machine.sources r.machine.events ≡ report_by image program plan
   gone r image program plan of ran =
       let m = run_of r.machine.image r.program r.plan.entries (events_of false r.plan) in
-      ap (λ es. run_report source globals (length r.plan.entries) m r.machine.sources es) ran.machine_schedule ∙ ap (λ es. run_report source globals (length r.plan.entries) m es (events_of false r.plan)) ran.source_schedule
-      ∙ ap (λ i. run_report source globals (length r.plan.entries) (run_of i r.program r.plan.entries (events_of false r.plan)) (explained_by i r.program r.plan.entries (events_of false r.plan)) (events_of false r.plan)) of.image_is
-      ∙ ap (λ p. run_report source globals (length r.plan.entries) (run_of image p r.plan.entries (events_of false r.plan)) (explained_by image p r.plan.entries (events_of false r.plan)) (events_of false r.plan)) of.program_is
-      ∙ ap (λ (q : Plan). run_report source globals (length q.entries) (run_of image program q.entries (events_of false q)) (explained_by image program q.entries (events_of false q)) (events_of false q)) of.plan_is
+      ap (λ es. run_report source globals (length r.plan.entries) m r.machine.sources es) ran.machine_schedule
+      ∙ ap (λ es. run_report source globals (length r.plan.entries) m es (events_of false r.plan)) (ran.source_schedule (is_native_entry source))
+      ∙ ap (λ i. report_by i r.program r.plan) of.image_is
+      ∙ ap (λ p. report_by image p r.plan) of.program_is
+      ∙ ap (λ q. report_by image program q) of.plan_is
 
-  -- the run of a module's image is that of its program's
-  pub begun : (law : BeginAlike) (m : Module) (program : First) → IsProgramOf m program → (image : Image RvInstr) (entries : List ℕ) (events : List Event) (n : ℕ)
-      → run_report source globals n (run_of image program entries events) (explained_by image program entries events) events
-      ≡ run_report source globals n (machine_run image (on_rv64 m) entries events) (explanation image (on_rv64 m) entries events) events
-  begun law m program of image entries events n =
-      ap (λ (x : Machine). run_report source globals n (run rv_kind image.code events x) (explain rv_kind image.code (tag_at image.tags) events x) events) (sym (law m program of image entries))
+-- the run of a module's image is that of its program's
+module _ (law : BeginAlike) (m : Module) (globals : List (List ℕ)) where
+  pub begun : (program : First) → IsProgramOf m program → (image : Image RvInstr) (plan : Plan)
+      → report_by (on_rv64 m) globals image program plan
+      ≡ run_report (on_rv64 m) globals (length plan.entries) (machine_run rv_kind image (on_rv64 m) plan.entries (events_of false plan)) (explanation rv_kind image (on_rv64 m) plan.entries (events_of false plan)) (events_of false plan)
+  begun program of image plan =
+      ap (λ (x : Machine). run_report (on_rv64 m) globals (length plan.entries) (run (rv_setting image) (events_of false plan) x) (explain (rv_setting image) given_of (tag_at image.tags) (is_native_entry (on_rv64 m)) (events_of false plan) x) (events_of false plan)) (sym (law m program of image plan.entries))

@@ -1,9 +1,9 @@
 -- What the stages of a command come to.
 use Rattle.std.specs.Prelude.{◌≡◌, List, ℕ, Some, None}
 use Rattle.std.specs.String.{string_bytes}
-use Rattle.ax_ir.specs.declared.module.Module.{Module}
-use Rattle.ax_ir.specs.WellFormed.{IsModule}
-use Rattle.ax_layout.specs.SourceState.{SourceProgram}
+use Rattle.ax_module.specs.declared.module.Module.{Module}
+use Rattle.ax_module.specs.WellFormed.{IsModule}
+use Rattle.ax_source_run.specs.SourceState.{SourceProgram}
 use Rattle.ax_read.specs.Derivation.{Derives}
 use Rattle.ax_check.specs.Faults.{IsFirstOfFaults}
 use Rattle.ax_first.specs.FirstKind.{first_of}

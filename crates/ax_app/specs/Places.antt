@@ -1,9 +1,9 @@
 -- Places of a module as a refusal names them.
 use Rattle.std.specs.Prelude.{◌≡◌, ℕ, All, List, [], ◌∷◌, ◌++◌, codes, decimal, map, slice_index_or}
-use Rattle.ax_ops.specs.declared.place.Place.{Place}
-use Rattle.ax_ops.specs.declared.place.Place.TheVariants as place
-use Rattle.ax_ir.specs.declared.module.Module.{Module}
-use Rattle.ax_ir.specs.Names.{IsAscii, global_token}
+use Rattle.ax_words.specs.declared.place.Place.{Place}
+use Rattle.ax_words.specs.declared.place.Place.TheVariants as place
+use Rattle.ax_module.specs.declared.module.Module.{Module}
+use Rattle.ax_module.specs.Names.{IsAscii, global_token}
 use Rattle.ax_app.specs.declared.places.Names.{Names}
 
 abbrev pub name_at : List (List ℕ) → ℕ → List ℕ

@@ -4,10 +4,10 @@ use Rattle.std.specs.String.{string_bytes}
 use Rattle.ax_io.specs.Count.{Rose}
 use Rattle.ax_isa.specs.declared.images.Image.{Image}
 use Rattle.ax_rv.specs.declared.instructions.RvInstr.{RvInstr}
-use Rattle.ax_ir.specs.declared.module.Module.{Module as ModuleType}
+use Rattle.ax_module.specs.declared.module.Module.{Module as ModuleType}
 use Rattle.ax_target.specs.declared.target.Target.{Target}
 use Rattle.ax_target.specs.declared.target.Target.TheVariants.{Rv}
-use Rattle.ax_check.specs.declared.accepted.Refusal.{Refusal}
+use Rattle.ax_check.specs.declared.refusal.Refusal.{Refusal}
 use Rattle.ax_check.specs.Faults.{IsFirstOfFaults}
 use Rattle.ax_read.specs.declared.fault.ReadFault.TheVariants as fault
 use Rattle.ax_read.specs.Derivation.{Derives, IsReadFault}
@@ -17,15 +17,18 @@ use Rattle.ax_first.specs.FirstKind.{first_of}
 use Rattle.ax_sched.specs.declared.plan.Plan.{Plan}
 use Rattle.ax_sched.specs.Events.{events_of}
 use Rattle.ax_sched.specs.Schedule.{IsFirstBad, IsSchedule}
-use Rattle.ax_lower.specs.Lowers.{Lowers, NeverIdles, machine_run, explanation}
-use Rattle.ax_lower.specs.Rows.{HasRows}
+use Rattle.ax_agree.specs.Lowers.{Lowers, NeverIdles, machine_run, explanation}
+use Rattle.ax_agree.specs.Rows.{HasRows}
+use Rattle.ax_agree.specs.Sound.{IsSound}
+use Rattle.ax_rv.specs.Instructions.{IsInstr, rv_kind}
 use Rattle.ax_print.specs.Assembly.{assembly_text}
 use Rattle.ax_app.specs.declared.done.Done.{Done}
 use Rattle.ax_app.specs.declared.verdict.Part.{Part}
 use Rattle.ax_app.specs.declared.verdict.Part.TheVariants.{Module, Schedule}
 use Rattle.ax_app.specs.declared.verdict.Verdict.{Verdict}
 use Rattle.ax_app.specs.declared.verdict.Verdict.TheVariants as verdict
-use Rattle.ax_app.specs.Answers.{run_form}
+use Rattle.ax_app.specs.Answers.{Command, Run, Map, command_of}
+use Rattle.ax_table.specs.MapText.{map_text}
 use Rattle.ax_app.specs.Writing.{Writing, Writes, written_of, answer_of}
 use Rattle.ax_app.specs.Places.{place_in}
 use Rattle.ax_app.specs.Report.{run_report}
@@ -34,14 +37,16 @@ use Rattle.ax_app.specs.Report.{run_report}
 pub record IsTextOf (m : ModuleType) (plan : Plan) (text : List ℕ) : Type 0 where
   pub image : Image RvInstr
   -- for all lists of entries and of events, the machine run and the source run under its explanation agree
-  pub lowers : Lowers image (on_rv64 m)
+  pub lowers : Lowers rv_kind image (on_rv64 m)
   -- no processor makes 4,096 Steps in a row without an Act
-  pub busy : NeverIdles image (on_rv64 m)
+  pub busy : NeverIdles rv_kind image (on_rv64 m)
   -- each instruction's code has its row of the mapping table
-  pub rows : HasRows image (on_rv64 m)
+  pub rows : HasRows rv_kind image (on_rv64 m)
+  -- among sound images the text fixes the image
+  pub sound : IsSound rv_kind IsInstr (map (λ f. f.name) m.functions) image
   pub whole :
       text ≡ assembly_text (map (λ f. f.name) m.functions) image
-      ++ run_report (on_rv64 m) (map (λ g. g.name) m.globals) (length plan.entries) (machine_run image (on_rv64 m) plan.entries (events_of false plan)) (explanation image (on_rv64 m) plan.entries (events_of false plan)) (events_of false plan)
+      ++ run_report (on_rv64 m) (map (λ g. g.name) m.globals) (length plan.entries) (machine_run rv_kind image (on_rv64 m) plan.entries (events_of false plan)) (explanation rv_kind image (on_rv64 m) plan.entries (events_of false plan)) (events_of false plan)
 
 abbrev pub rv64 : Target
 rv64 = Rv false false
@@ -118,26 +123,41 @@ OfBoth r names v =
     (bytes schedule : List ℕ) → r.held names.0 ≡ Some bytes → r.held names.1 ≡ Some schedule
     → (length bytes ≤ limit_of Module) × (length schedule ≤ limit_of Schedule) × (b : IsBuilt bytes) × IsRunVerdict b.source schedule v
 
--- WHY A COMMAND COMES TO A VERDICT: the checks in their order, each where no earlier one answered. Want of memory is free.
-abbrev pub CauseOf : Reading → Option (List ℕ × List ℕ) → Verdict → Type 0
-CauseOf r None verdict.Usage = HasAsked r []
-CauseOf r None verdict.Memory = HasAsked r []
-CauseOf r None _ = ⊥
-CauseOf r (Some names) verdict.Usage = ⊥
-CauseOf r (Some names) verdict.Memory = HasAsked r [] ⊎ (HasAsked r (names.0 ∷ []) ⊎ HasAsked r (names.0 ∷ names.1 ∷ []))
-CauseOf r (Some names) (verdict.ReadFault part) = HasAsked r (asked_for part names) × Rose r.faults_before r.faults × EarlierBuilt r names part
-CauseOf r (Some names) (verdict.TooLong part) =
+-- why a run comes to a verdict: the checks in their order, each where no earlier one answered
+abbrev pub CauseOfRun : Reading → List ℕ × List ℕ → Verdict → Type 0
+CauseOfRun r names verdict.Usage = ⊥
+CauseOfRun r names verdict.Memory = HasAsked r [] ⊎ (HasAsked r (names.0 ∷ []) ⊎ HasAsked r (names.0 ∷ names.1 ∷ []))
+CauseOfRun r names (verdict.ReadFault part) = HasAsked r (asked_for part names) × Rose r.faults_before r.faults × EarlierBuilt r names part
+CauseOfRun r names (verdict.TooLong part) =
     HasAsked r (asked_for part names) × (limit_of part < r.taken) × EarlierBuilt r names part × ((bytes : List ℕ) → r.held (name_of part names) ≡ Some bytes → limit_of part < length bytes)
-CauseOf r (Some names) (verdict.Syntax line) = HasAsked r (names.0 ∷ []) × OfFile r Module names (λ bytes. IsModuleVerdict bytes (verdict.Syntax line))
-CauseOf r (Some names) (verdict.Opcode line) = HasAsked r (names.0 ∷ []) × OfFile r Module names (λ bytes. IsModuleVerdict bytes (verdict.Opcode line))
-CauseOf r (Some names) (verdict.Name line) = HasAsked r (names.0 ∷ []) × OfFile r Module names (λ bytes. IsModuleVerdict bytes (verdict.Name line))
-CauseOf r (Some names) (verdict.Refused number place) = HasAsked r (names.0 ∷ []) × OfFile r Module names (λ bytes. IsModuleVerdict bytes (verdict.Refused number place))
-CauseOf r (Some names) verdict.Unbuilt = HasAsked r (names.0 ∷ []) × OfFile r Module names (λ bytes. IsModuleVerdict bytes verdict.Unbuilt)
-CauseOf r (Some names) (verdict.Schedule line why) = HasAsked r (names.0 ∷ names.1 ∷ []) × OfBoth r names (verdict.Schedule line why)
-CauseOf r (Some names) (verdict.Text text) = HasAsked r (names.0 ∷ names.1 ∷ []) × OfBoth r names (verdict.Text text)
+CauseOfRun r names (verdict.Syntax line) = HasAsked r (names.0 ∷ []) × OfFile r Module names (λ bytes. IsModuleVerdict bytes (verdict.Syntax line))
+CauseOfRun r names (verdict.Opcode line) = HasAsked r (names.0 ∷ []) × OfFile r Module names (λ bytes. IsModuleVerdict bytes (verdict.Opcode line))
+CauseOfRun r names (verdict.Name line) = HasAsked r (names.0 ∷ []) × OfFile r Module names (λ bytes. IsModuleVerdict bytes (verdict.Name line))
+CauseOfRun r names (verdict.Refused number place) = HasAsked r (names.0 ∷ []) × OfFile r Module names (λ bytes. IsModuleVerdict bytes (verdict.Refused number place))
+CauseOfRun r names verdict.Unbuilt = HasAsked r (names.0 ∷ []) × OfFile r Module names (λ bytes. IsModuleVerdict bytes verdict.Unbuilt)
+CauseOfRun r names (verdict.Schedule line why) = HasAsked r (names.0 ∷ names.1 ∷ []) × OfBoth r names (verdict.Schedule line why)
+CauseOfRun r names (verdict.Text text) = HasAsked r (names.0 ∷ names.1 ∷ []) × OfBoth r names (verdict.Text text)
+
+-- the mapping table asks for no file
+abbrev pub CauseOfMap : Reading → Target → Verdict → Type 0
+CauseOfMap r target (verdict.Text text) = HasAsked r [] × (string_bytes text ≡ map_text target)
+CauseOfMap r target verdict.Memory = HasAsked r []
+CauseOfMap r target _ = ⊥
+
+-- words that are none of the forms
+abbrev pub CauseOfOther : Reading → Verdict → Type 0
+CauseOfOther r verdict.Usage = HasAsked r []
+CauseOfOther r verdict.Memory = HasAsked r []
+CauseOfOther r _ = ⊥
+
+-- WHY A COMMAND COMES TO A VERDICT. Want of memory is free.
+abbrev pub CauseOf : Reading → Option Command → Verdict → Type 0
+CauseOf r None v = CauseOfOther r v
+CauseOf r (Some (Run names)) v = CauseOfRun r names v
+CauseOf r (Some (Map target)) v = CauseOfMap r target v
 
 -- A COMMAND'S ANSWER: a verdict that has its cause, written
 pub record IsServed (words : List (List ℕ)) (r : Reading) (w : Writing) (got : Done) : Type 0 where
   pub comes_to : Verdict
-  pub cause : CauseOf r (run_form words) comes_to
+  pub cause : CauseOf r (command_of words) comes_to
   pub writes : Writes w (written_of comes_to) (answer_of comes_to) got

@@ -1,7 +1,7 @@
 //! Modules that are built: what the bytes of a module file come to.
 
 ghost use Rattle.std.specs.Prelude.{◌≡◌, ◌≤◌, ℕ, List, length, MatchResult, Some};
-ghost use Rattle.ax_ir.specs.WellFormed.{IsModule};
+ghost use Rattle.ax_module.specs.WellFormed.{IsModule};
 ghost use Rattle.ax_first.specs.Alike.{on_rv64};
 ghost use Rattle.ax_read.specs.Derivation.{IsReadFault};
 ghost use Rattle.ax_check.specs.Faults.{IsFirstOfFaults};
@@ -11,7 +11,7 @@ use crate::places::Names;
 use crate::verdict::Verdict;
 use ax_check::{Accepted, CheckFault, Refusal, check};
 use ax_first::{FirstModule, first_of};
-use ax_ir::Module;
+use ax_module::Module;
 use ax_read::{ReadFault, read};
 use ax_target::Target;
 use std::alloc::Global;

@@ -1,16 +1,18 @@
 //! The checks of a command in their order, up to its text.
 
-ghost use Rattle.std.specs.Prelude.{◌≡◌, ◌≤◌, ℕ, List, length, map, IfOk, MatchResult, Some, None};
+ghost use Rattle.std.specs.Prelude.{◌≡◌, ◌≤◌, ℕ, List, [], length, map, IfOk, MatchResult, Some, None};
 ghost use Rattle.std.specs.String.{string_bytes};
-ghost use Rattle.ax_app.specs.Answers.{run_form};
-ghost use Rattle.ax_app.specs.Serve.{reading, CauseOf, limit_of};
+ghost use Rattle.ax_app.specs.Answers.{command_of};
+ghost use Rattle.ax_app.specs.Serve.{reading, CauseOf, CauseOfMap, CauseOfRun, Reading, HasAsked, limit_of};
 ghost use Rattle.ax_app.specs.Reads.{ReadWhole, ReadFails};
 
 use crate::built::built_of;
-use crate::command::run_command;
+use crate::command::{map_command, run_command};
 use crate::text::run_of;
 use crate::verdict::{Part, Verdict};
 use ax_io::{FileFault, Files};
+use ax_table::map_text;
+use ax_target::Target;
 use std::alloc::Global;
 
 /// The most bytes that a file may have.
@@ -49,7 +51,7 @@ fn judge_run<F: Files>(
     module_name: &str,
     schedule_name: &str,
 ) -> Verdict
-    ensures { CauseOf (reading (F.held files.old) (F.asked files.old) (F.asked files.new) (F.faults files.old) (F.faults files.new) (F.taken files.new)) (Some (module_name.now, schedule_name.now)) result }
+    ensures { CauseOfRun (reading (F.held files.old) (F.asked files.old) (F.asked files.new) (F.faults files.old) (F.faults files.new) (F.taken files.new)) (module_name.now, schedule_name.now) result }
 {
     let bytes = match read_part(alloc, files, Part::Module, module_name) {
         Ok(bytes) => bytes,
@@ -66,10 +68,23 @@ fn judge_run<F: Files>(
     run_of(alloc, built, &schedule)
 }
 
+/// The mapping table of a target.
+fn judge_map(alloc: Global, target: Target) -> Verdict
+    ensures { (r : Reading) → HasAsked r [] → CauseOfMap r target result }
+{
+    match map_text(alloc, target) {
+        Ok(text) => Verdict::Text(text),
+        Err(_) => Verdict::Memory,
+    }
+}
+
 /// What the words and the files come to. Nothing is written.
 pub(crate) fn judge<F: Files>(alloc: Global, words: &[String], files: &mut F) -> Verdict
-    ensures { CauseOf (reading (F.held files.old) (F.asked files.old) (F.asked files.new) (F.faults files.old) (F.faults files.new) (F.taken files.new)) (run_form (map string_bytes words.now)) result }
+    ensures { CauseOf (reading (F.held files.old) (F.asked files.old) (F.asked files.new) (F.faults files.old) (F.faults files.new) (F.taken files.new)) (command_of (map string_bytes words.now)) result }
 {
+    if let Some(target) = map_command(words) {
+        return judge_map(alloc, target);
+    }
     match run_command(words) {
         Some((module_name, schedule_name)) => judge_run(alloc, files, module_name, schedule_name),
         None => Verdict::Usage,

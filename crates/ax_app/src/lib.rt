@@ -14,8 +14,3 @@ pub mod verdict;
 pub use done::Done;
 pub use top::serve;
 pub use verdict::{Part, Verdict};
-
-#[cfg(test)]
-mod refusal_tests;
-#[cfg(test)]
-mod tests;

@@ -2,12 +2,13 @@
 
 ghost use Rattle.std.specs.Prelude.{◌≡◌, ◌++◌, All, IfOk, OnOk};
 ghost use Rattle.std.specs.String.{string_bytes};
-ghost use Rattle.ax_ir.specs.Names.{IsAscii, global_token};
-ghost use Rattle.ax_ir.specs.WellFormed.{IsModule};
+ghost use Rattle.ax_module.specs.Names.{IsAscii, global_token};
+ghost use Rattle.ax_module.specs.WellFormed.{IsModule};
 ghost use Rattle.ax_app.specs.Places.{AreNamesOf, name_at, place_text};
 
 use ax_first::{function_names, global_names};
-use ax_ir::{Module, Name, Place, names_are_ascii};
+use ax_module::{Module, Name, names_are_ascii};
+use ax_words::Place;
 use std::alloc::{AllocError, Global};
 
 /// The names of a module's globals and functions, which outlive it.

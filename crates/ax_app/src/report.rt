@@ -2,9 +2,10 @@
 
 ghost use Rattle.std.specs.Prelude.{◌≡◌, ◌++◌, ◌<◌, ◌≤◌, ◌^◌, OnOk, All, length};
 ghost use Rattle.std.specs.String.{string_bytes};
-ghost use Rattle.ax_ir.specs.declared.module.Module.{Module};
+ghost use Rattle.ax_module.specs.declared.module.Module.{Module};
 ghost use Rattle.ax_first.specs.Alike.{IsProgramOf, on_rv64};
 ghost use Rattle.ax_isa.specs.Run.{Machine};
+ghost use Rattle.ax_source_run.specs.SourceState.{SourceProgram};
 ghost use Rattle.ax_run.specs.Machine.{Shows};
 ghost use Rattle.ax_store.specs.Bytes.{number_at};
 ghost use Rattle.ax_lower.specs.Layout.{HasElement, address_of};
@@ -51,7 +52,7 @@ fn push_objects(out: &mut String, run: &Run, globals: &[Name]) -> Result<(), All
 /// The lines of the processors.
 #[tactic(auto, using(crate::proofs::Reports::processor_next, crate::proofs::Reports::processor_none))]
 fn push_processors(out: &mut String, run: &Run) -> Result<(), AllocError>
-    ensures { (m : Machine) → Shows run.now.machine m → OnOk result (string_bytes out.new ≡ string_bytes out.old ++ processor_part m 0 (length run.now.plan.entries)) }
+    ensures { (of : SourceProgram) (m : Machine) → Shows run.now.machine m → OnOk result (string_bytes out.new ≡ string_bytes out.old ++ processor_part of m 0 (length run.now.plan.entries)) }
 {
     for p in 0..run.processors() {
         push_processor(

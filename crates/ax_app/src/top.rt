@@ -118,7 +118,7 @@ fn write<S: Sink>(alloc: Global, sink: &mut S, verdict: Verdict) -> Done
 
 /// Does what the words say, with these files, and writes to the sink: `run rv64 MODULE SCHEDULE`
 /// writes the assembly of the module's image for RV64 and then the report of its run under the
-/// schedule. A refusal writes its line alone.
+/// schedule, `map TARGET` the mapping table of a target. A refusal writes its line alone.
 pub fn serve<F: Files, S: Sink>(
     alloc: Global,
     words: &[String],

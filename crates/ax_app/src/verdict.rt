@@ -3,7 +3,7 @@
 use ax_sched::Cause;
 
 /// A file of a command.
-#[derive(Clone, Copy, Debug, PartialEq, Eq)]
+#[derive(Clone, Copy)]
 pub enum Part {
     Module,
     Schedule,
@@ -11,7 +11,7 @@ pub enum Part {
 
 /// What a command comes to: its text, or what stands in the way. Lines are counted from 1; a place
 /// is as a refusal writes it.
-#[derive(Debug, Drop)]
+#[derive(Drop)]
 pub enum Verdict {
     Text(String),
     Usage,

@@ -5,10 +5,10 @@ use Rattle.std.proofs.Math.ListN.{length-set}
 use Rattle.std.proofs.lemmas.Bool.Decides.{nat_tests}
 use Rattle.std.proofs.lemmas.List.{drop-drop, drop-append-le, drop_all, get_or_default, length-append, length-replicate}
 use Rattle.std.proofs.lemmas.List.Elements.{All-drop, All-push, All-tail}
-use Rattle.ax_ir.specs.declared.module.Global.{Global}
-use Rattle.ax_layout.specs.SourcePointers.{elements_of_global}
-use Rattle.ax_layout.specs.SourceAccess.{element_set, newest, put_at}
-use Rattle.ax_layout.specs.SourceState.{PendingStore}
+use Rattle.ax_module.specs.declared.module.Global.{Global}
+use Rattle.ax_source_run.specs.SourcePointers.{elements_of_global}
+use Rattle.ax_source_run.specs.SourceAccess.{element_set, newest, put_at}
+use Rattle.ax_source_run.specs.SourceState.{PendingStore}
 use Rattle.ax_cells.specs.NewestStores.{AreNewest, IsNewest, counts_of, is_to, no_places, place_in}
 use Rattle.ax_cells.specs.PendingState.{counts_for, counts_in}
 use Rattle.ax_cells.specs.Shapes.{IsCell, shape_in}

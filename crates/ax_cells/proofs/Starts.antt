@@ -6,16 +6,16 @@ use Rattle.std.proofs.lemmas.Bool.{and_parts, cases_lt}
 use Rattle.std.proofs.lemmas.Bool.Decides.{nat_tests}
 use Rattle.std.proofs.lemmas.Grind.{common_steps}
 use Rattle.std.proofs.lemmas.List.{get_or-replicate, length-replicate, length-map}
-use Rattle.ax_ir.specs.declared.inst.Inst.{Inst}
-use Rattle.ax_ir.specs.declared.module.Block.{Block}
-use Rattle.ax_ir.specs.declared.module.Global.{Global}
-use Rattle.ax_ir.specs.declared.module.Module.{Module}
-use Rattle.ax_ir.specs.declared.operand.Operand.{Operand}
-use Rattle.ax_ir.specs.declared.types.Ty.{Ty}
-use Rattle.ax_layout.specs.SourcePointers.{elements_of_alloca, elements_of_global}
-use Rattle.ax_layout.specs.SourceRun.{constant_of, constants_of, first_numbers}
-use Rattle.ax_layout.specs.SourceState.{Number}
-use Rattle.ax_layout.specs.SourceValues.{operand_of}
+use Rattle.ax_module.specs.declared.inst.Inst.{Inst}
+use Rattle.ax_module.specs.declared.module.Block.{Block}
+use Rattle.ax_module.specs.declared.module.Global.{Global}
+use Rattle.ax_module.specs.declared.module.Module.{Module}
+use Rattle.ax_module.specs.declared.operand.Operand.{Operand}
+use Rattle.ax_module.specs.declared.types.Ty.{Ty}
+use Rattle.ax_source_run.specs.SourcePointers.{elements_of_alloca, elements_of_global}
+use Rattle.ax_source_run.specs.SourceRun.{constant_of, constants_of, first_numbers}
+use Rattle.ax_source_run.specs.SourceState.{Number}
+use Rattle.ax_source_run.specs.SourceValues.{operand_of}
 use Rattle.ax_cells.specs.Memories.{initial_array, initial_cells, starts_from, zeros_of}
 use Rattle.ax_cells.specs.Narrow.{is_narrow, is_narrow_global}
 use Rattle.ax_cells.specs.Shapes.{cells_of, shapes_of}

@@ -1,8 +1,8 @@
 -- Lists of stores that wait.
 use Rattle.std.proofs.Common.{◌≡◌, ℕ, zero, suc, ◌+◌, ◌<◌, ◌≤◌, List, [], ◌∷◌, length, drop, refl, sym, ap, ◌∙◌, arith}
 use Rattle.std.specs.Prelude.{slice_index_or}
-use Rattle.ax_layout.specs.SourceAccess.{element_set, written_out}
-use Rattle.ax_layout.specs.SourceState.{PendingStore}
+use Rattle.ax_source_run.specs.SourceAccess.{element_set, written_out}
+use Rattle.ax_source_run.specs.SourceState.{PendingStore}
 
 drop_next : (stores : List PendingStore) (k j : ℕ) (d : PendingStore) → j ≡ k + 1 → k < length stores → drop k stores ≡ slice_index_or stores k d ∷ drop j stores
 drop_next (s ∷ stores) zero j d e h = let f : j ≡ suc zero = omega arith in rw f refl

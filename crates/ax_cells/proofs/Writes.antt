@@ -3,9 +3,9 @@ use Rattle.std.proofs.Common.{◌≡◌, ℕ, zero, suc, ◌+◌, ◌<◌, Bool,
 use Rattle.std.specs.Prelude.{slice_index_or, slice_set, slice_index, nat_eq, if◌then◌else◌}
 use Rattle.std.proofs.lemmas.Bool.Decides.{nat_tests}
 use Rattle.std.proofs.Math.ListN.{length-set}
-use Rattle.ax_layout.specs.SourcePointers.{Elements}
-use Rattle.ax_layout.specs.SourceAccess.{element_set, put_at}
-use Rattle.ax_layout.specs.SourceState.{Number, SourceValue}
+use Rattle.ax_source_run.specs.SourcePointers.{Elements}
+use Rattle.ax_source_run.specs.SourceAccess.{element_set, put_at}
+use Rattle.ax_source_run.specs.SourceState.{Number, SourceValue}
 use Rattle.ax_cells.specs.declared.value.Value.{Value}
 use Rattle.ax_cells.specs.declared.value.Value.TheVariants as value
 use Rattle.ax_cells.specs.Values.{value_of}

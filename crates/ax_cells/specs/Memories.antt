@@ -1,13 +1,13 @@
 -- What a machine starts with: the numbers of its arrays, and where its blocks begin.
 use Rattle.std.specs.Prelude.{ℕ, ◌+◌, List, [], ◌∷◌, Some, length, map, replicate}
-use Rattle.ax_ir.specs.declared.inst.Inst.{Inst}
-use Rattle.ax_ir.specs.declared.module.Block.{Block}
-use Rattle.ax_ir.specs.declared.module.Global.{Global}
-use Rattle.ax_ir.specs.declared.operand.Operand.{Operand}
-use Rattle.ax_ir.specs.declared.types.Ty.{Ty}
-use Rattle.ax_layout.specs.SourcePointers.{elements_of_alloca}
-use Rattle.ax_layout.specs.SourceState.{Number}
-use Rattle.ax_layout.specs.SourceValues.{operand_of}
+use Rattle.ax_module.specs.declared.inst.Inst.{Inst}
+use Rattle.ax_module.specs.declared.module.Block.{Block}
+use Rattle.ax_module.specs.declared.module.Global.{Global}
+use Rattle.ax_module.specs.declared.operand.Operand.{Operand}
+use Rattle.ax_module.specs.declared.types.Ty.{Ty}
+use Rattle.ax_source_run.specs.SourcePointers.{elements_of_alloca}
+use Rattle.ax_source_run.specs.SourceState.{Number}
+use Rattle.ax_source_run.specs.SourceValues.{operand_of}
 use Rattle.ax_cells.specs.Shapes.{ArrayState}
 
 -- constants, or zeros where there are none

@@ -1,8 +1,8 @@
 -- Types whose numbers have at most 128 bits.
 use Rattle.std.specs.Prelude.{Bool, ◌&&◌, ◌||◌, length, nat_eq, nat_le}
-use Rattle.ax_ir.specs.declared.module.Global.{Global}
-use Rattle.ax_ir.specs.declared.types.Ty.{Ty}
-use Rattle.ax_layout.specs.SourceValues.{type_bits}
+use Rattle.ax_module.specs.declared.module.Global.{Global}
+use Rattle.ax_module.specs.declared.types.Ty.{Ty}
+use Rattle.ax_source_run.specs.SourceValues.{type_bits}
 
 -- at most 128 bits
 abbrev pub is_narrow : Ty → Bool

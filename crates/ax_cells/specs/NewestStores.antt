@@ -1,7 +1,7 @@
 -- Where the newest store to each element stands.
 use Rattle.std.specs.Prelude.{◌≡◌, ◌+◌, ℕ, Bool, true, false, ◌&&◌, nat_eq, All, List, [], IsSomeAnd, drop, length, map, replicate, slice_get, slice_index, slice_index_or}
-use Rattle.ax_ir.specs.declared.module.Global.{Global}
-use Rattle.ax_layout.specs.SourceState.{PendingStore}
+use Rattle.ax_module.specs.declared.module.Global.{Global}
+use Rattle.ax_source_run.specs.SourceState.{PendingStore}
 
 -- a row of places for each global; an element that isn't there has place 0
 abbrev pub place_in : List (List ℕ) → ℕ → ℕ → ℕ

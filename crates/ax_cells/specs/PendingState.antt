@@ -1,8 +1,8 @@
 -- What contracts see of the stores that wait.
 use Rattle.std.specs.Prelude.{ℕ, zero, suc, List, [], All, map}
-use Rattle.ax_ir.specs.declared.module.Global.{Global}
-use Rattle.ax_layout.specs.SourcePointers.{Elements}
-use Rattle.ax_layout.specs.SourceState.{PendingStore}
+use Rattle.ax_module.specs.declared.module.Global.{Global}
+use Rattle.ax_source_run.specs.SourcePointers.{Elements}
+use Rattle.ax_source_run.specs.SourceState.{PendingStore}
 use Rattle.ax_cells.specs.Shapes.{IsCell}
 
 -- the stores, the oldest first, for how many more there is memory, and to how many elements of each global

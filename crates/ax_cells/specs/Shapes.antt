@@ -1,11 +1,11 @@
 -- What contracts see of arrays of numbers and of the results of instructions.
 use Rattle.std.specs.Prelude.{◌<◌, ◌+◌, ℕ, List, [], ◌∷◌, Some, length, map, slice_index, slice_index_or}
-use Rattle.ax_ir.specs.declared.module.Module.{Module}
-use Rattle.ax_ir.specs.declared.types.Ty.{Ty}
-use Rattle.ax_ir.specs.declared.types.Ty.TheVariants.{I8}
-use Rattle.ax_layout.specs.SourceAccess.{put_at}
-use Rattle.ax_layout.specs.SourcePointers.{Elements, elements_of_alloca, elements_of_global, insts_of, no_elements}
-use Rattle.ax_layout.specs.SourceState.{Number, SourceValue}
+use Rattle.ax_module.specs.declared.module.Module.{Module}
+use Rattle.ax_module.specs.declared.types.Ty.{Ty}
+use Rattle.ax_module.specs.declared.types.Ty.TheVariants.{I8}
+use Rattle.ax_source_run.specs.SourceAccess.{put_at}
+use Rattle.ax_source_run.specs.SourcePointers.{Elements, elements_of_alloca, elements_of_global, insts_of, no_elements}
+use Rattle.ax_source_run.specs.SourceState.{Number, SourceValue}
 use Rattle.ax_cells.specs.declared.value.Value.{Value}
 use Rattle.ax_cells.specs.declared.value.Value.TheVariants as value
 use Rattle.ax_cells.specs.Values.{value_of}

@@ -4,7 +4,7 @@ use Rattle.ax_cells.specs.declared.value.Object.TheVariants as object
 use Rattle.ax_cells.specs.declared.value.Pointer.{Pointer}
 use Rattle.ax_cells.specs.declared.value.Value.{Value}
 use Rattle.ax_cells.specs.declared.value.Value.TheVariants as value
-use Rattle.ax_layout.specs.SourceState.{Object as SourceObject, Shared, Private, Pointer as SourcePointer, SourceValue, Number, Pair, PointsTo}
+use Rattle.ax_source_run.specs.SourceState.{Object as SourceObject, Shared, Private, Pointer as SourcePointer, SourceValue, Number, Pair, PointsTo}
 
 abbrev pub object_of : Object → SourceObject
 object_of (object.Shared g) = Shared g

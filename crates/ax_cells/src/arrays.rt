@@ -1,10 +1,10 @@
 //! Arrays of numbers in a row: the globals of a module, and the allocas of a function.
 
 ghost use Rattle.std.specs.Prelude.{◌≡◌, ◌<◌, length, replicate, slice_index, slice_index_or, slice_set, unwrap_or, option_copied, IfOk};
-ghost use Rattle.ax_layout.specs.SourceAccess.{element_set};
+ghost use Rattle.ax_source_run.specs.SourceAccess.{element_set};
 ghost use Rattle.ax_cells.specs.Shapes.{IsCell, cells_of, no_array, shape_in, shapes_of};
 
-use ax_ir::Ty;
+use ax_module::Ty;
 use std::alloc::{AllocError, Global};
 use std::marker::Model;
 

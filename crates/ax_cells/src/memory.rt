@@ -7,7 +7,7 @@ ghost use Rattle.ax_cells.specs.Narrow.{is_narrow, is_narrow_global};
 
 use crate::arrays::Array;
 use crate::value::constant;
-use ax_ir::{Block, Inst, Operand, Ty, module};
+use ax_module::{Block, Inst, Operand, Ty, module};
 use std::alloc::{AllocError, Global};
 
 /// The initial numbers of a global's elements: its constants, and zeros where it has none.
@@ -45,7 +45,7 @@ pub fn initial_arrays(alloc: Global, globals: &[module::Global]) -> Result<Vec<A
 }
 
 /// The array of an instruction: the elements of an alloca, or none.
-#[tactic(auto, unfolding(ax_layout::specs::SourcePointers::elements_of_alloca))]
+#[tactic(auto, unfolding(ax_source_run::specs::SourcePointers::elements_of_alloca))]
 fn array_of(alloc: Global, inst: &Inst) -> Result<Array, AllocError>
     ensures { IfOk result (λ a. a ≡ zeros_of inst.now) }
 {

@@ -1,10 +1,10 @@
 //! Where the newest store to each element stands among the stores of a processor.
 
 ghost use Rattle.std.specs.Prelude.{◌≡◌, ◌<◌, length, map, replicate, slice_index, slice_set, IfOk};
-ghost use Rattle.ax_layout.specs.SourceAccess.{element_set};
+ghost use Rattle.ax_source_run.specs.SourceAccess.{element_set};
 ghost use Rattle.ax_cells.specs.NewestStores.{counts_of, place_in, no_places};
 
-use ax_ir::module;
+use ax_module::module;
 use std::alloc::{AllocError, Global};
 use std::marker::Model;
 

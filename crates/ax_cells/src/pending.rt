@@ -1,13 +1,13 @@
 //! The stores of a processor that wait.
 
 ghost use Rattle.std.specs.Prelude.{◌≡◌, ◌<◌, ◌-◌, ◌++◌, ◌∷◌, [], drop, take, slice_index, IfOk};
-ghost use Rattle.ax_layout.specs.SourceAccess.{newest, written_out};
+ghost use Rattle.ax_source_run.specs.SourceAccess.{newest, written_out};
 ghost use Rattle.ax_cells.specs.Shapes.{cells_of, shapes_of};
 ghost use Rattle.ax_cells.specs.PendingState.{HaveCells, counts_for};
 
 use crate::arrays::Arrays;
 use crate::newest_stores::NewestStores;
-use ax_ir::module;
+use ax_module::module;
 use std::alloc::{AllocError, Global};
 use std::marker::Model;
 
@@ -22,7 +22,7 @@ pub struct Waiting {
 }
 
 impl Model for Waiting {
-    ghost use Rattle.ax_layout.specs.SourceState.{PendingStore};
+    ghost use Rattle.ax_source_run.specs.SourceState.{PendingStore};
 
     ghost Value = { PendingStore };
 

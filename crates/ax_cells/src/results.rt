@@ -1,7 +1,7 @@
 //! The results of a function's instructions.
 
 ghost use Rattle.std.specs.Prelude.{◌≡◌, ◌<◌, ◌≤◌, ◌+◌, length, replicate, IfOk};
-ghost use Rattle.ax_layout.specs.SourceAccess.{put_at};
+ghost use Rattle.ax_source_run.specs.SourceAccess.{put_at};
 ghost use Rattle.ax_cells.specs.Values.{value_of};
 ghost use Rattle.ax_cells.specs.Shapes.{numbers_put, values_of};
 

@@ -1,32 +1,32 @@
 //! The values of instructions and of constants, and the pointers among them.
 
 ghost use Rattle.std.specs.Prelude.{◌≡◌, IsTrue};
-ghost use Rattle.ax_layout.specs.SourcePointers.{pointed};
-ghost use Rattle.ax_layout.specs.SourceState.{Number};
-ghost use Rattle.ax_layout.specs.SourceValues.{number_of, operand_of, part_of};
+ghost use Rattle.ax_source_run.specs.SourcePointers.{pointed};
+ghost use Rattle.ax_source_run.specs.SourceState.{Number};
+ghost use Rattle.ax_source_run.specs.SourceValues.{number_of, operand_of, part_of};
 ghost use Rattle.ax_cells.specs.Narrow.{is_narrow};
 ghost use Rattle.ax_cells.specs.Values.{pointer_of, value_of};
 
-use ax_ir::{Operand, Ty};
+use ax_module::{Operand, Ty};
 use ax_values::{bits, low, wrapped};
 
 /// What a pointer points into: a global, or the alloca of an instruction. A number that is no
 /// pointer counts as an instruction's.
-#[derive(Clone, Copy, Debug, PartialEq, Eq)]
+#[derive(Clone, Copy)]
 pub enum Object {
     Shared(u32),
     Private(u128),
 }
 
 /// An element of an object; its index may lie past the last.
-#[derive(Clone, Copy, Debug, PartialEq, Eq)]
+#[derive(Clone, Copy)]
 pub struct Pointer {
     pub object: Object,
     pub index: u128,
 }
 
 /// An instruction's result: a number, the pair of a compare-exchange, or a pointer.
-#[derive(Clone, Copy, Debug, PartialEq, Eq)]
+#[derive(Clone, Copy)]
 pub enum Value {
     Number(u128),
     Pair(u128, bool),

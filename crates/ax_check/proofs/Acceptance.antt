@@ -1,22 +1,23 @@
 -- No rule is broken at any point of an accepted module.
 use Rattle.ax_rules.specs.Limits.{bytes_of_allocas, has_many_phis, instruction_count}
-use Rattle.ax_ir.specs.declared.types.Ty.{Ty}
+use Rattle.ax_module.specs.declared.types.Ty.{Ty}
 use Rattle.std.proofs.lemmas.Bool.Decides.{nat_tests}
 use Rattle.std.specs.List.{list_any}
 use Rattle.std.proofs.Common.{◌≡◌, ℕ, zero, suc, ◌+◌, ◌<◌, ◌⊎◌, Bool, true, false, List, [], ◌∷◌, ◌++◌, length, map, get_or, Option, Some, None, subst, sym, refl, inl, inr, arith, ap, Contains, slice_get, ◌≤◌, ◌||◌, ◌∙◌}
 use Rattle.std.specs.Prelude.{◌&&◌, not, nat_eq, nat_lt}
 use Rattle.std.proofs.lemmas.Bool.{and_from, both_ways, cases_Bool, or_from, or_parts, cases_lt}
 use Rattle.std.proofs.lemmas.Option.{none-some, same_Some, slice_get-get_or}
-use Rattle.ax_ir.specs.declared.module.Function.{Function}
-use Rattle.ax_ir.specs.declared.module.Global.{Global}
+use Rattle.ax_module.specs.declared.module.Function.{Function}
+use Rattle.ax_module.specs.declared.module.Global.{Global}
 use Rattle.ax_rules.specs.declared.rule.Rule.{Rule}
 use Rattle.ax_rules.specs.declared.rule.Rule.TheVariants.{Width, Kind, DynamicShift, UserCall, Parameter, BadOrdering, MixedWidth, AlignOverstated, PlainLocked, NotDefined, Alloca, Limit}
 use Rattle.ax_rules.specs.Points.{Point, AtGlobal, AtHead, AtInst, Spot, points, points_of_function, points_of_functions, points_of_globals, rules_in_order, spots}
 use Rattle.ax_layout.specs.Layout.{LayoutState}
-use Rattle.ax_layout.specs.SourceState.{SourceProgram}
-use Rattle.ax_rules.specs.Alignment.{overstated, plain_locked}
+use Rattle.ax_source_run.specs.SourceState.{SourceProgram}
+use Rattle.ax_access_rules.specs.Alignment.{overstated, plain_locked}
 use Rattle.ax_rules.specs.Facts.{scope_of}
-use Rattle.ax_rules.specs.Tests.{are_globals_fine, has_fault_from, is_empty}
+use Rattle.ax_rules.specs.Points.{is_empty}
+use Rattle.ax_access_rules.specs.RulesAtPoints.{are_globals_fine, has_fault_from}
 use Rattle.ax_check.specs.declared.defined.Use.{Use}
 use Rattle.ax_check.specs.Accepted.{IsAccepted}
 use Rattle.ax_check.specs.Defined.{uses, IsMissingAt, IsDefinedAt, IsDefined}

@@ -1,8 +1,8 @@
 -- A rule is broken at an instruction of a module exactly where it is by what the instruction can name.
 use Rattle.std.proofs.Common.{◌≡◌, ℕ, true, Option, subst}
 use Rattle.std.proofs.lemmas.Bool.{and_from, and_parts}
-use Rattle.ax_ir.specs.declared.module.Function.{Function}
-use Rattle.ax_ir.specs.declared.module.Module.{Module}
+use Rattle.ax_module.specs.declared.module.Function.{Function}
+use Rattle.ax_module.specs.declared.module.Module.{Module}
 use Rattle.ax_target.specs.declared.target.Target.{Target}
 use Rattle.ax_layout.specs.Layout.{LayoutState, layout_of}
 use Rattle.ax_rules.specs.declared.facts.Scope.{Scope}
@@ -10,7 +10,7 @@ use Rattle.ax_rules.specs.declared.rule.Rule.{Rule}
 use Rattle.ax_rules.specs.declared.rule.Rule.TheVariants.{Width, Kind, DynamicShift, UserCall, Parameter, BadOrdering, MixedWidth, AlignOverstated, PlainLocked, NotDefined, Alloca, Limit}
 use Rattle.ax_rules.specs.Facts.{scope_of}
 use Rattle.ax_rules.specs.Points.{AtInst, Spot, rules_in_order}
-use Rattle.ax_rules.specs.Tests.{are_globals_fine}
+use Rattle.ax_access_rules.specs.RulesAtPoints.{are_globals_fine}
 use Rattle.ax_check.specs.declared.faults.Setting.{Setting}
 use Rattle.ax_check.specs.Faults.{FirstRule, IsFault}
 use Rattle.ax_check.specs.First.{FirstBy}

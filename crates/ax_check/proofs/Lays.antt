@@ -7,24 +7,24 @@ use Rattle.std.proofs.lemmas.Bool.{cases_Bool, cases_lt, cond-false, or_parts, a
 use Rattle.std.proofs.lemmas.Bool.Decides.{nat_tests}
 use Rattle.std.proofs.lemmas.List.{drop_more}
 use Rattle.std.proofs.lemmas.Option.{same_Some, slice_get-map, slice_get_within, none-some, get_or_from_slice_get}
-use Rattle.ax_ir.specs.declared.module.Function.{Function}
-use Rattle.ax_ir.specs.declared.module.Global.{Global}
-use Rattle.ax_ir.specs.declared.module.Module.{Module}
-use Rattle.ax_ir.specs.declared.types.Ty.{Ty}
-use Rattle.ax_ir.specs.declared.types.Ty.TheVariants.{I1, I8, I16, I32, I64, I128, Int, Float, Double, Ptr, Vector}
-use Rattle.ax_ir.specs.Types.{type_bytes}
-use Rattle.ax_ir.specs.WellFormed.{is_bit}
+use Rattle.ax_module.specs.declared.module.Function.{Function}
+use Rattle.ax_module.specs.declared.module.Global.{Global}
+use Rattle.ax_module.specs.declared.module.Module.{Module}
+use Rattle.ax_module.specs.declared.types.Ty.{Ty}
+use Rattle.ax_module.specs.declared.types.Ty.TheVariants.{I1, I8, I16, I32, I64, I128, Int, Float, Double, Ptr, Vector}
+use Rattle.ax_module.specs.Types.{type_bytes}
+use Rattle.ax_module.specs.WellFormed.{is_bit}
 use Rattle.ax_layout.specs.Layout.{CanBeLaidOut, IsLaidOut, LayoutState, count_in, end_after, end_of_span, globals_limit, globals_start, is_element_type, layout_of, span_after}
 use Rattle.ax_layout.specs.Regions.{IsThatOf}
 use Rattle.ax_layout.proofs.Elements.{those}
 use Rattle.ax_layout.proofs.Spans.{element_some}
 use Rattle.ax_rules.specs.declared.facts.Extent.{Extent}
 use Rattle.ax_rules.specs.declared.facts.Scope.{Scope}
-use Rattle.ax_rules.specs.Alignment.{LaysOut}
+use Rattle.ax_access_rules.specs.Alignment.{LaysOut}
 use Rattle.ax_rules.specs.Facts.{extent_of_global, scope_of}
 use Rattle.ax_rules.specs.Kind.{is_other}
 use Rattle.ax_rules.specs.Limits.{is_count, passes_first}
-use Rattle.ax_rules.specs.Tests.{are_globals_fine, has_fault_at, has_fault_from}
+use Rattle.ax_access_rules.specs.RulesAtPoints.{are_globals_fine, has_fault_at, has_fault_from}
 use Rattle.ax_rules.specs.Width.{is_odd}
 
 element : (t : Ty) → is_odd t ≡ false → is_bit t ≡ false → is_other t ≡ false → is_element_type t ≡ true

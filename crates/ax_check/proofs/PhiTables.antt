@@ -1,9 +1,9 @@
 use Rattle.std.proofs.Common.{◌≡◌, ℕ, ◌⊎◌, ◌↔◌, Bool, true, List, Option, Some, None, slice_index_or, subst, sym, ◌∙◌, inl, inr, refl}
 use Rattle.std.specs.List.{All}
 use Rattle.std.proofs.lemmas.Option.{same_Some, none-some}
-use Rattle.ax_check.specs.declared.walks.Exit.{Exit}
+use Rattle.ax_check.specs.declared.exits.Exit.{Exit}
 use Rattle.ax_check.specs.Walk.{Leads}
-use Rattle.ax_ir.specs.declared.operand.Operand.{Operand}
+use Rattle.ax_module.specs.declared.operand.Operand.{Operand}
 use Rattle.ax_check.specs.Phis.{Entries, HasWrongBlocks, IsTable}
 
 option_cases : {X : Type 0} (o : Option X) → (o ≡ None) ⊎ ((x : X) × (o ≡ Some x))

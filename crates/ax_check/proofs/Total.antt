@@ -3,26 +3,26 @@ use Rattle.std.proofs.Common.{◌∙◌, ◌≡◌, ◌≢◌, ℕ, ◌+◌, ◌
 use Rattle.std.specs.List.{list_all}
 use Rattle.std.proofs.lemmas.Bool.{and_parts}
 use Rattle.std.proofs.lemmas.Option.{none-some}
-use Rattle.ax_ir.specs.declared.module.Global.{Global}
-use Rattle.ax_ir.specs.WellFormed.{IsModule, is_function}
+use Rattle.ax_module.specs.declared.module.Global.{Global}
+use Rattle.ax_module.specs.WellFormed.{IsModule, is_function}
 use Rattle.ax_target.specs.declared.target.Target.{Target}
 use Rattle.ax_rules.specs.declared.rule.Rule.{Rule}
 use Rattle.ax_rules.specs.declared.rule.Rule.TheVariants.{Width, Kind, DynamicShift, UserCall, Parameter, BadOrdering, MixedWidth, AlignOverstated, PlainLocked, NotDefined, Alloca, Limit}
 use Rattle.ax_rules.specs.Points.{Point, AtGlobal, AtHead, AtInst, Spot, points, points_of_function, points_of_functions, points_of_globals, rules_in_order, spots}
-use Rattle.ax_check.specs.declared.accepted.Refusal.{Refusal}
+use Rattle.ax_check.specs.declared.refusal.Refusal.{Refusal}
 use Rattle.ax_check.proofs.Shapes.{is_graph}
 use Rattle.std.proofs.lemmas.Bool.{cases_Bool, cases_eq, cases_lt, or_from, or_parts, both_ways}
 use Rattle.std.proofs.lemmas.List.{get_or_past, length-map}
-use Rattle.ax_check.specs.declared.walks.Exit.{Exit}
-use Rattle.ax_check.specs.declared.walks.Exit.TheVariants.{Stop, Jump, Branch}
+use Rattle.ax_check.specs.declared.exits.Exit.{Exit}
+use Rattle.ax_check.specs.declared.exits.Exit.TheVariants.{Stop, Jump, Branch}
 use Rattle.ax_check.specs.Walk.{LeadsTo, Leads, IsWalk, passes, IsInRange}
 use Rattle.ax_check.proofs.Decided.{comes_decided}
-use Rattle.ax_ir.specs.declared.inst.Inst.{Inst}
-use Rattle.ax_ir.specs.declared.inst.Inst.TheVariants.{Phi}
-use Rattle.ax_ir.specs.declared.operand.Operand.{Operand}
-use Rattle.ax_ir.specs.declared.operand.Operand.TheVariants.{Const, Wide, Value, Param}
-use Rattle.ax_ir.specs.declared.module.Function.{Function}
-use Rattle.ax_ir.specs.declared.module.Module.{Module}
+use Rattle.ax_module.specs.declared.inst.Inst.{Inst}
+use Rattle.ax_module.specs.declared.inst.Inst.TheVariants.{Phi}
+use Rattle.ax_module.specs.declared.operand.Operand.{Operand}
+use Rattle.ax_module.specs.declared.operand.Operand.TheVariants.{Const, Wide, Value, Param}
+use Rattle.ax_module.specs.declared.module.Function.{Function}
+use Rattle.ax_module.specs.declared.module.Module.{Module}
 use Rattle.ax_check.specs.Graph.{IsGraph, block_exit, block_of, graph_of}
 use Rattle.ax_check.specs.First.{FirstBy, KeepsThose}
 use Rattle.ax_check.specs.Phis.{Entries, Clashes, MissesOne}

@@ -1,11 +1,11 @@
 -- What the first fault of a module says of its list of faults.
 use Rattle.std.proofs.Common.{◌≡◌, Some, None}
-use Rattle.ax_ir.specs.declared.module.Module.{Module}
-use Rattle.ax_ir.specs.WellFormed.{IsModule}
+use Rattle.ax_module.specs.declared.module.Module.{Module}
+use Rattle.ax_module.specs.WellFormed.{IsModule}
 use Rattle.ax_target.specs.declared.target.Target.{Target}
 use Rattle.ax_layout.specs.Layout.{LayoutState, layout_of}
-use Rattle.ax_check.specs.declared.accepted.CheckFault.{CheckFault}
-use Rattle.ax_check.specs.declared.accepted.CheckFault.TheVariants.{Refused, Memory}
+use Rattle.ax_check.specs.declared.refusal.CheckFault.{CheckFault}
+use Rattle.ax_check.specs.declared.refusal.CheckFault.TheVariants.{Refused, Memory}
 use Rattle.ax_check.specs.Accepted.{IsAccepted}
 use Rattle.ax_check.specs.Causes.{IsCause, IsFirstCause}
 use Rattle.ax_check.specs.Faults.{FirstFault}

@@ -1,8 +1,8 @@
 -- Accepted modules, and why a module isn't one.
 use Rattle.std.specs.Prelude.{◌≡◌, []}
-use Rattle.ax_ir.specs.WellFormed.{IsModule}
+use Rattle.ax_module.specs.WellFormed.{IsModule}
 use Rattle.ax_layout.specs.Layout.{layout_of}
-use Rattle.ax_layout.specs.SourceState.{SourceProgram}
+use Rattle.ax_source_run.specs.SourceState.{SourceProgram}
 use Rattle.ax_check.specs.Faults.{AreFaults}
 
 -- a well formed module without faults on its target, with its layout

@@ -1,9 +1,9 @@
 -- Why a module is not accepted.
 use Rattle.std.specs.Prelude.{Some}
-use Rattle.ax_ir.specs.declared.module.Module.{Module}
+use Rattle.ax_module.specs.declared.module.Module.{Module}
 use Rattle.ax_target.specs.declared.target.Target.{Target}
-use Rattle.ax_check.specs.declared.accepted.CheckFault.{CheckFault}
-use Rattle.ax_check.specs.declared.accepted.CheckFault.TheVariants.{Refused, Memory}
+use Rattle.ax_check.specs.declared.refusal.CheckFault.{CheckFault}
+use Rattle.ax_check.specs.declared.refusal.CheckFault.TheVariants.{Refused, Memory}
 use Rattle.ax_check.specs.Faults.{IsFirstOfFaults, FirstFault}
 
 -- a refusal is the first of the list of faults; want of memory says nothing

@@ -1,17 +1,17 @@
 -- The list of a module's faults, in module order and then by number.
 use Rattle.std.specs.Prelude.{◌≡◌, ℕ, true, List, [], ◌∷◌, map, Option, Some, None}
 use Rattle.std.specs.List.{flat_map}
-use Rattle.ax_ir.specs.declared.inst.Inst.{Inst}
-use Rattle.ax_ir.specs.declared.module.Block.{Block}
-use Rattle.ax_ir.specs.declared.module.Function.{Function}
-use Rattle.ax_ir.specs.declared.module.Global.{Global}
-use Rattle.ax_ir.specs.declared.module.Module.{Module}
+use Rattle.ax_module.specs.declared.inst.Inst.{Inst}
+use Rattle.ax_module.specs.declared.module.Block.{Block}
+use Rattle.ax_module.specs.declared.module.Function.{Function}
+use Rattle.ax_module.specs.declared.module.Global.{Global}
+use Rattle.ax_module.specs.declared.module.Module.{Module}
 use Rattle.ax_target.specs.declared.target.Target.{Target}
 use Rattle.ax_rules.specs.declared.rule.Rule.{Rule}
 use Rattle.ax_rules.specs.declared.rule.Rule.TheVariants.{NotDefined}
 use Rattle.ax_rules.specs.Points.{Point, AtGlobal, AtHead, AtInst, number_of, place_of, points, points_of_functions, points_of_globals, rules_in_order, spots_from, spots_of_block}
-use Rattle.ax_rules.specs.Tests.{test}
-use Rattle.ax_check.specs.declared.accepted.Refusal.{Refusal}
+use Rattle.ax_access_rules.specs.RulesAtPoints.{test}
+use Rattle.ax_check.specs.declared.refusal.Refusal.{Refusal}
 use Rattle.ax_check.specs.Defined.{IsNotDefined}
 use Rattle.ax_check.specs.First.{FirstBy, KeepsThose}
 

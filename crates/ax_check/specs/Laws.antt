@@ -1,17 +1,17 @@
 -- What holds of every accepted module.
 use Rattle.std.specs.List.{list_any}
 use Rattle.std.specs.Prelude.{◌≡◌, ℕ, false, Contains, Some, slice_get, ◌≤◌, true, [], nat_eq}
-use Rattle.ax_ir.specs.declared.module.Function.{Function}
-use Rattle.ax_ir.specs.declared.module.Module.{Module}
+use Rattle.ax_module.specs.declared.module.Function.{Function}
+use Rattle.ax_module.specs.declared.module.Module.{Module}
 use Rattle.ax_target.specs.declared.target.Target.{Target}
-use Rattle.ax_layout.specs.SourceState.{SourceProgram}
-use Rattle.ax_rules.specs.Alignment.{overstated, plain_locked}
-use Rattle.ax_rules.specs.Allocas.{alloca_fault}
+use Rattle.ax_source_run.specs.SourceState.{SourceProgram}
+use Rattle.ax_access_rules.specs.Alignment.{overstated, plain_locked}
+use Rattle.ax_access_rules.specs.Allocas.{alloca_fault}
 use Rattle.ax_rules.specs.Facts.{scope_of}
 use Rattle.ax_rules.specs.Kind.{kind_fault}
 use Rattle.ax_rules.specs.Limits.{limit_fault, bytes_of_allocas, has_many_phis, instruction_count}
-use Rattle.ax_rules.specs.Mixed.{mixed_fault}
-use Rattle.ax_rules.specs.Orders.{order_fault}
+use Rattle.ax_access_rules.specs.Mixed.{mixed_fault}
+use Rattle.ax_access_rules.specs.Orders.{order_fault}
 use Rattle.ax_rules.specs.Points.{Point, Spot, points, spots}
 use Rattle.ax_rules.specs.Signatures.{user_call}
 use Rattle.ax_rules.specs.Width.{returns_value, shift_fault, width_fault}

@@ -1,7 +1,7 @@
 use Rattle.std.specs.Prelude.{◌≡◌, ◌≢◌, ℕ, ◌⊎◌, ◌↔◌, List, Option, Some, None, slice_index_or, Contains, Any}
-use Rattle.ax_check.specs.declared.walks.Exit.{Exit}
+use Rattle.ax_check.specs.declared.exits.Exit.{Exit}
 use Rattle.ax_check.specs.Walk.{Leads}
-use Rattle.ax_ir.specs.declared.operand.Operand.{Operand}
+use Rattle.ax_module.specs.declared.operand.Operand.{Operand}
 
 -- the entries of a phi: operands and blocks
 abbrev pub Entries : Type 0

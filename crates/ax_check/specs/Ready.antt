@@ -1,22 +1,22 @@
 -- What the instructions of one function are checked by.
 use Rattle.std.specs.Prelude.{◌≡◌, true, List, [], ◌∷◌}
-use Rattle.ax_ir.specs.declared.module.Function.{Function}
-use Rattle.ax_ir.specs.declared.module.Module.{Module}
+use Rattle.ax_module.specs.declared.module.Function.{Function}
+use Rattle.ax_module.specs.declared.module.Module.{Module}
 use Rattle.ax_target.specs.declared.target.Target.{Target}
 use Rattle.ax_layout.specs.Layout.{LayoutState, layout_of}
 use Rattle.ax_rules.specs.declared.facts.Scope.{Scope}
 use Rattle.ax_rules.specs.declared.rule.Rule.{Rule}
 use Rattle.ax_rules.specs.declared.rule.Rule.TheVariants.{Width, Kind, DynamicShift, UserCall, Parameter, BadOrdering, MixedWidth, AlignOverstated, PlainLocked, NotDefined, Alloca, Limit}
-use Rattle.ax_rules.specs.Alignment.{LaysOut, overstated, plain_locked}
-use Rattle.ax_rules.specs.Allocas.{alloca_fault}
+use Rattle.ax_access_rules.specs.Alignment.{LaysOut, overstated, plain_locked}
+use Rattle.ax_access_rules.specs.Allocas.{alloca_fault}
 use Rattle.ax_rules.specs.Facts.{scope_of}
 use Rattle.ax_rules.specs.Kind.{kind_fault}
 use Rattle.ax_rules.specs.Limits.{limit_fault}
-use Rattle.ax_rules.specs.Mixed.{mixed_fault}
-use Rattle.ax_rules.specs.Orders.{order_fault}
+use Rattle.ax_access_rules.specs.Mixed.{mixed_fault}
+use Rattle.ax_access_rules.specs.Orders.{order_fault}
 use Rattle.ax_rules.specs.Points.{Spot}
 use Rattle.ax_rules.specs.Signatures.{user_call}
-use Rattle.ax_rules.specs.Tests.{are_globals_fine}
+use Rattle.ax_access_rules.specs.RulesAtPoints.{are_globals_fine}
 use Rattle.ax_rules.specs.Width.{returns_value, shift_fault, width_fault}
 use Rattle.ax_check.specs.declared.faults.Setting.{Setting}
 use Rattle.ax_check.specs.Defined.{IsNotDefined}

@@ -2,42 +2,43 @@
 
 ghost use Rattle.std.specs.Prelude.{◌≡◌, ◌≢◌, ◌<◌, ◌≤◌, ◌+◌, ◌^◌, ℕ, true, false, IfOk, IsTrue, length, None, Some};
 ghost use Rattle.std.specs.List.{list_all};
-ghost use Rattle.ax_ir.specs.declared.module.Module.{Module};
+ghost use Rattle.ax_module.specs.declared.module.Module.{Module};
 ghost use Rattle.ax_target.specs.declared.target.Target.{Target};
-ghost use Rattle.ax_ir.specs.Ranges.{is_function_in_range, is_global_in_range, is_inst_in_range};
-ghost use Rattle.ax_ir.specs.WellFormed.{is_function};
-ghost use Rattle.ax_ir.specs.declared.module.Function.{Function};
+ghost use Rattle.ax_module.specs.Ranges.{is_function_in_range, is_global_in_range, is_inst_in_range};
+ghost use Rattle.ax_module.specs.WellFormed.{is_function};
+ghost use Rattle.ax_module.specs.declared.module.Function.{Function};
 ghost use Rattle.ax_layout.specs.Layout.{LayoutState, layout_of};
-ghost use Rattle.ax_rules.specs.Alignment.{LaysOut};
+ghost use Rattle.ax_access_rules.specs.Alignment.{LaysOut};
 ghost use Rattle.ax_rules.specs.Facts.{scope_of};
 ghost use Rattle.ax_rules.specs.Limits.{instruction_count};
 ghost use Rattle.ax_rules.specs.Parts.{AreParts};
 ghost use Rattle.ax_rules.specs.Points.{AtGlobal, AtHead, AtInst, points_of_function};
-ghost use Rattle.ax_rules.specs.Tests.{are_globals_fine, has_fault_at};
+ghost use Rattle.ax_access_rules.specs.RulesAtPoints.{are_globals_fine, has_fault_at};
 ghost use Rattle.ax_check.specs.Facts.{Describes};
 ghost use Rattle.ax_check.specs.Faults.{FirstAt, FirstInBlock, FirstInBlocks, FirstInFunctions, FirstInGlobals, FirstRule};
 ghost use Rattle.ax_check.specs.First.{FirstBy};
 ghost use Rattle.ax_check.specs.Graph.{IsGraph};
 ghost use Rattle.ax_check.specs.Ready.{IsFaultHere, IsReady, early_rules, late_rules};
 
-use crate::accepted::Refusal;
 use crate::defined::is_not_defined;
 use crate::facts::Facts;
-use ax_ir::{Block, Function, Inst, Module, Place, Site, module};
+use crate::refusal::Refusal;
+use ax_access_rules::alignment::{has_overstated, has_plain_locked};
+use ax_access_rules::allocas::has_alloca;
+use ax_access_rules::mixed::has_mixed_width;
+use ax_access_rules::orders::has_bad_ordering;
 use ax_layout::Layout;
-use ax_rules::alignment::{has_overstated, has_plain_locked};
-use ax_rules::allocas::has_alloca;
+use ax_module::{Block, Function, Inst, Module, module};
 use ax_rules::calls::is_user_call;
 use ax_rules::kind::{has_kind, has_kind_at_head, has_kind_of_global};
 use ax_rules::limits::{has_limit, has_limit_at_head, has_limit_of_global};
-use ax_rules::mixed::has_mixed_width;
-use ax_rules::orders::has_bad_ordering;
 use ax_rules::width::{
     has_dynamic_shift, has_parameter, has_returned_value, has_width, has_width_at_head,
     has_width_of_global,
 };
 use ax_rules::{Parts, Rule, Scope};
 use ax_target::Target;
+use ax_words::{Place, Site};
 use std::alloc::{AllocError, Global};
 
 /// What the instructions of one function are checked by.

@@ -1,15 +1,15 @@
 //! What holds of every accepted module.
 
 ghost use Rattle.std.specs.Prelude.{◌≡◌, ◌≤◌, length, ℕ, false, List, [], Contains, Some, slice_get};
-ghost use Rattle.ax_ir.specs.declared.module.Function.{Function};
-ghost use Rattle.ax_ir.specs.declared.module.Module.{Module};
-ghost use Rattle.ax_ir.specs.WellFormed.{IsModule};
+ghost use Rattle.ax_module.specs.declared.module.Function.{Function};
+ghost use Rattle.ax_module.specs.declared.module.Module.{Module};
+ghost use Rattle.ax_module.specs.WellFormed.{IsModule};
 ghost use Rattle.ax_target.specs.declared.target.Target.{Target};
 ghost use Rattle.ax_layout.specs.Layout.{CanBeLaidOut};
-ghost use Rattle.ax_layout.specs.SourceState.{SourceProgram};
+ghost use Rattle.ax_source_run.specs.SourceState.{SourceProgram};
 ghost use Rattle.ax_rules.specs.declared.rule.Rule.{Rule};
 ghost use Rattle.ax_rules.specs.Points.{Point};
-ghost use Rattle.ax_rules.specs.Tests.{has_alloca, has_bad_ordering, has_dynamic_shift, has_kind, has_limit, has_mixed_width, has_overstated, has_parameter, has_plain_locked, has_user_call, has_width};
+ghost use Rattle.ax_access_rules.specs.RulesAtPoints.{has_alloca, has_bad_ordering, has_dynamic_shift, has_kind, has_limit, has_mixed_width, has_overstated, has_parameter, has_plain_locked, has_user_call, has_width};
 ghost use Rattle.ax_check.specs.Accepted.{IsAccepted};
 ghost use Rattle.ax_check.specs.Faults.{AreFaults, IsFault};
 ghost use Rattle.ax_check.specs.Laws.{AtInstructions, AtPoints, IsSound, IsSoundHead};

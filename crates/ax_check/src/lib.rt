@@ -3,16 +3,13 @@
 
 pub mod accepted;
 pub mod defined;
+pub mod exits;
 pub mod facts;
 pub mod faults;
 pub mod laws;
-pub mod module;
 pub mod phis;
-pub mod table;
+pub mod refusal;
 pub mod walks;
 
-pub use accepted::{CheckFault, Refusal};
-pub use module::{Accepted, check};
-
-#[cfg(test)]
-mod tests;
+pub use accepted::{Accepted, check};
+pub use refusal::{CheckFault, Refusal};

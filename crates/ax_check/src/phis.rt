@@ -4,9 +4,9 @@ ghost use Rattle.std.specs.List.{All};
 ghost use Rattle.ax_check.specs.Walk.{Leads, IsInRange};
 ghost use Rattle.ax_check.specs.Phis.{Clashes, MissesOne, NamesOther, HasWrongBlocks, IsTable};
 
-use crate::table::Walks;
-use crate::walks::Exit;
-use ax_ir::Operand;
+use crate::exits::Exit;
+use crate::walks::Walks;
+use ax_module::Operand;
 use std::alloc::{AllocError, Global};
 
 /// Whether block `p` leads to block `b`.

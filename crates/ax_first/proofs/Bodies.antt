@@ -4,9 +4,9 @@ use Rattle.std.specs.Prelude.{nat_le, nat_lt, slice_get, ◌&&◌}
 use Rattle.std.proofs.lemmas.Bool.{cases_Bool}
 use Rattle.std.proofs.lemmas.Bool.Decides.{nat_tests}
 use Rattle.std.proofs.lemmas.Option.{cond_some, option_and_then_some, same_Some, slice_get_within}
-use Rattle.ax_ir.specs.declared.inst.Inst.{Inst}
-use Rattle.ax_ir.specs.declared.module.Block.{Block}
-use Rattle.ax_ir.specs.declared.module.Function.{Function}
+use Rattle.ax_module.specs.declared.inst.Inst.{Inst}
+use Rattle.ax_module.specs.declared.module.Block.{Block}
+use Rattle.ax_module.specs.declared.module.Function.{Function}
 use Rattle.ax_first.specs.WellFormed.{HasResult, IsOperand, IsInst, IsFunction}
 use Rattle.ax_first.specs.declared.first.FirstInst.{FirstInst}
 use Rattle.ax_first.specs.declared.first.FirstInst.TheVariants as first

@@ -7,24 +7,24 @@ use Rattle.std.proofs.lemmas.Bool.{and_parts}
 use Rattle.std.proofs.lemmas.Bool.Decides.{nat_tests}
 use Rattle.std.proofs.lemmas.List.{append-nil}
 use Rattle.std.proofs.lemmas.Option.{cond_some, option_and_then_some, same_Some}
-use Rattle.ax_ir.specs.declared.inst.Inst.{Inst}
-use Rattle.ax_ir.specs.declared.module.Block.{Block}
-use Rattle.ax_ir.specs.declared.module.Function.{Function}
-use Rattle.ax_ir.specs.declared.module.Global.{Global}
-use Rattle.ax_ir.specs.declared.module.Module.{Module}
-use Rattle.ax_ir.specs.declared.operand.Operand.{Operand}
-use Rattle.ax_ir.specs.declared.operand.Operand.TheVariants as operand
-use Rattle.ax_ir.specs.declared.types.Ty.{Ty}
-use Rattle.ax_ir.specs.declared.types.Ty.TheVariants as ty
+use Rattle.ax_module.specs.declared.inst.Inst.{Inst}
+use Rattle.ax_module.specs.declared.module.Block.{Block}
+use Rattle.ax_module.specs.declared.module.Function.{Function}
+use Rattle.ax_module.specs.declared.module.Global.{Global}
+use Rattle.ax_module.specs.declared.module.Module.{Module}
+use Rattle.ax_module.specs.declared.operand.Operand.{Operand}
+use Rattle.ax_module.specs.declared.operand.Operand.TheVariants as operand
+use Rattle.ax_module.specs.declared.types.Ty.{Ty}
+use Rattle.ax_module.specs.declared.types.Ty.TheVariants as ty
 use Rattle.ax_target.specs.declared.target.Target.TheVariants.{Rv}
 use Rattle.ax_layout.specs.declared.classes.Class.TheVariants.{Native, Locked}
 use Rattle.ax_layout.specs.declared.span.Span.{Span}
 use Rattle.ax_layout.specs.Classes.{class_of}
 use Rattle.ax_layout.specs.Layout.{alignment_of, end_after, end_of_span, layout_of, next_multiple, nowhere, span_after, spans_after}
-use Rattle.ax_layout.specs.SourceInstructions.{first_number, insts_of_block}
-use Rattle.ax_layout.specs.SourcePointers.{blocks_in, blocks_of, insts_of}
-use Rattle.ax_layout.specs.SourceRun.{constant_of, constants_of, first_numbers}
-use Rattle.ax_layout.specs.SourceValues.{operand_of, wrapped}
+use Rattle.ax_source_run.specs.SourceInstructions.{first_number, insts_of_block}
+use Rattle.ax_source_run.specs.SourcePointers.{blocks_in, blocks_of, insts_of}
+use Rattle.ax_source_run.specs.SourceRun.{constant_of, constants_of, first_numbers}
+use Rattle.ax_source_run.specs.SourceValues.{operand_of, wrapped}
 use Rattle.ax_first.specs.declared.first.FirstInst.{FirstInst}
 use Rattle.ax_first.specs.declared.module.FirstModule.{FirstModule}
 use Rattle.ax_first.specs.Alike.{Corresponds, word_at, words, words_from}
@@ -84,7 +84,7 @@ number_alike (negsuc k) n e =
     let small : k < 2 ^ 63 = (let t = c.0 in grind (arith, nat_tests)) in
     (let r : k % 2 ^ 64 ≡ k = grind (arith) in ap (λ x. 2 ^ 64 - 1 - x) r) ∙ c.1
 
-pub constant_alike : (v : Operand) (n : ℕ) → kind.constant_of v ≡ Some n → (values : ℕ → Rattle.ax_layout.specs.SourceState.SourceValue) → operand_of ty.I64 v values ≡ n
+pub constant_alike : (v : Operand) (n : ℕ) → kind.constant_of v ≡ Some n → (values : ℕ → Rattle.ax_source_run.specs.SourceState.SourceValue) → operand_of ty.I64 v values ≡ n
 constant_alike (operand.Const z) n e values = number_alike z n e
 constant_alike (operand.Wide w) n e values = absurd cc
 constant_alike (operand.Value k) n e values = absurd cc
@@ -140,10 +140,10 @@ aligned (Some n) h = grind (arith, nat_tests)
 
 span_alike : (g : Global) (c : ℕ) → IsFirstGlobal g → span_after (8 * c) g ≡ word_at c
 span_alike g c h =
-    let eight : alignment_of g ≡ 8 = ap (λ (t : Ty). unwrap_or g.align (Rattle.ax_ir.specs.Types.type_bytes t)) h.elem ∙ aligned g.align h.align in
+    let eight : alignment_of g ≡ 8 = ap (λ (t : Ty). unwrap_or g.align (Rattle.ax_module.specs.Types.type_bytes t)) h.elem ∙ aligned g.align h.align in
     let start : next_multiple (alignment_of g) (8 * c) ≡ 8 * c = ap (λ a. next_multiple a (8 * c)) eight ∙ (let r : (8 * c + 7) / 8 * 8 ≡ 8 * c = grind (arith) in r) in
-    ap (λ s. record { start = s; bytes = Rattle.ax_ir.specs.Types.type_bytes g.elem; count = g.count }) start
-    ∙ ap (λ (t : Ty). record { start = 8 * c; bytes = Rattle.ax_ir.specs.Types.type_bytes t; count = g.count }) h.elem
+    ap (λ s. record { start = s; bytes = Rattle.ax_module.specs.Types.type_bytes g.elem; count = g.count }) start
+    ∙ ap (λ (t : Ty). record { start = 8 * c; bytes = Rattle.ax_module.specs.Types.type_bytes t; count = g.count }) h.elem
     ∙ ap (λ n. record { start = 8 * c; bytes = 8; count = n }) h.count
 
 end_alike : (g : Global) (c : ℕ) → IsFirstGlobal g → end_of_span (span_after (8 * c) g) ≡ 8 * (c + 1)

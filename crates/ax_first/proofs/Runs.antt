@@ -6,37 +6,37 @@ use Rattle.std.specs.List.{list_any}
 use Rattle.std.proofs.lemmas.Bool.{and_parts}
 use Rattle.std.proofs.lemmas.Bool.Decides.{nat_tests}
 use Rattle.std.proofs.lemmas.Option.{cond_some, option_and_then_some, same_Some}
-use Rattle.ax_ops.specs.declared.operation.RmwOp.{RmwOp}
-use Rattle.ax_ops.specs.declared.operation.RmwOp.TheVariants as rmw
-use Rattle.ax_ops.specs.declared.order.Access.TheVariants as access
-use Rattle.ax_ops.specs.declared.order.Order.{Order}
-use Rattle.ax_ops.specs.declared.source.SourceEvent.{SourceEvent}
-use Rattle.ax_ops.specs.declared.source.SourceEvent.TheVariants.{Act, Look, Miss, Drain}
-use Rattle.ax_ops.specs.declared.source.SourceStatus.{SourceStatus}
-use Rattle.ax_ops.specs.declared.source.SourceStatus.TheVariants.{Running, Ended, Trapped}
-use Rattle.ax_ir.specs.declared.inst.Inst.{Inst}
-use Rattle.ax_ir.specs.declared.inst.Inst.TheVariants as inst
-use Rattle.ax_ir.specs.declared.module.Global.{Global}
-use Rattle.ax_ir.specs.declared.module.Module.{Module}
-use Rattle.ax_ir.specs.declared.operand.Addr.{Addr}
-use Rattle.ax_ir.specs.declared.operand.Arg.{Arg}
-use Rattle.ax_ir.specs.declared.operand.Arg.TheVariants as arg
-use Rattle.ax_ir.specs.declared.operand.Base.{Base}
-use Rattle.ax_ir.specs.declared.operand.Base.TheVariants as base
-use Rattle.ax_ir.specs.declared.operand.Operand.{Operand}
-use Rattle.ax_ir.specs.declared.operand.Operand.TheVariants as operand
-use Rattle.ax_ir.specs.declared.types.Ty.{Ty}
-use Rattle.ax_ir.specs.declared.types.Ty.TheVariants as ty
+use Rattle.ax_words.specs.declared.operation.RmwOp.{RmwOp}
+use Rattle.ax_words.specs.declared.operation.RmwOp.TheVariants as rmw
+use Rattle.ax_words.specs.declared.order.Access.TheVariants as access
+use Rattle.ax_words.specs.declared.order.Order.{Order}
+use Rattle.ax_words.specs.declared.source.SourceEvent.{SourceEvent}
+use Rattle.ax_words.specs.declared.source.SourceEvent.TheVariants.{Act, Look, Miss, Drain}
+use Rattle.ax_words.specs.declared.source.SourceStatus.{SourceStatus}
+use Rattle.ax_words.specs.declared.source.SourceStatus.TheVariants.{Running, Ended, Trapped}
+use Rattle.ax_module.specs.declared.inst.Inst.{Inst}
+use Rattle.ax_module.specs.declared.inst.Inst.TheVariants as inst
+use Rattle.ax_module.specs.declared.module.Global.{Global}
+use Rattle.ax_module.specs.declared.module.Module.{Module}
+use Rattle.ax_module.specs.declared.operand.Addr.{Addr}
+use Rattle.ax_module.specs.declared.operand.Arg.{Arg}
+use Rattle.ax_module.specs.declared.operand.Arg.TheVariants as arg
+use Rattle.ax_module.specs.declared.operand.Base.{Base}
+use Rattle.ax_module.specs.declared.operand.Base.TheVariants as base
+use Rattle.ax_module.specs.declared.operand.Operand.{Operand}
+use Rattle.ax_module.specs.declared.operand.Operand.TheVariants as operand
+use Rattle.ax_module.specs.declared.types.Ty.{Ty}
+use Rattle.ax_module.specs.declared.types.Ty.TheVariants as ty
 use Rattle.ax_layout.specs.declared.span.Span.{Span}
 use Rattle.ax_layout.specs.Classes.{class_of}
 use Rattle.ax_layout.specs.Layout.{address_in, bytes_in, layout_of, nowhere, span_in, spans_after}
-use Rattle.ax_layout.specs.SourceAccess.{Deed, Silent, Writes, answered, gets, is_native_class, is_native_element, manner_of_native, put_at, shared_done}
-use Rattle.ax_layout.specs.SourceEvent.{act, after, expected_by, inst_if, look, looked, miss, missed, number_of_next, outputs_of, seen_by, source_event}
-use Rattle.ax_layout.specs.SourceInstructions.{deed, deed_of, first_number, insts_of_block, is_inside, is_out as is_out_name, is_unreachable, pointers_of, traps, access_of, result_in, store_may_wait}
-use Rattle.ax_layout.specs.SourcePointers.{blocks_of, elements_of_global, insts_of, pointer_of}
-use Rattle.ax_layout.specs.SourceRun.{first_numbers, first_processor, source_run, source_start}
-use Rattle.ax_layout.specs.SourceState.{Shared, SourceProcessor, SourceProgram, SourceState, SourceValue, Number}
-use Rattle.ax_layout.specs.SourceValues.{operand_of}
+use Rattle.ax_source_run.specs.SourceAccess.{Deed, Silent, Writes, answered, gets, is_native_class, is_native_element, manner_of_native, put_at, shared_done}
+use Rattle.ax_source_run.specs.SourceEvent.{act, after, expected_by, inst_if, look, looked, miss, missed, number_of_next, outputs_of, seen_by, source_event}
+use Rattle.ax_source_run.specs.SourceInstructions.{deed, deed_of, first_number, insts_of_block, is_inside, is_out as is_out_name, is_unreachable, pointers_of, traps, access_of, result_in, store_may_wait}
+use Rattle.ax_source_run.specs.SourcePointers.{blocks_of, elements_of_global, insts_of, pointer_of}
+use Rattle.ax_source_run.specs.SourceRun.{first_numbers, first_processor, source_run, source_start}
+use Rattle.ax_source_run.specs.SourceState.{Shared, SourceProcessor, SourceProgram, SourceState, SourceValue, Number}
+use Rattle.ax_source_run.specs.SourceValues.{operand_of}
 use Rattle.ax_first.specs.declared.first.First.{First}
 use Rattle.ax_first.specs.declared.first.FirstInst.{FirstInst}
 use Rattle.ax_first.specs.declared.first.FirstInst.TheVariants.{Load, Store, Add, Out, Ret}

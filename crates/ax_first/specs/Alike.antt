@@ -1,15 +1,15 @@
 -- The two source machines of a module of the first kind: that of whole modules and that of programs.
 use Rattle.std.specs.Prelude.{◌≡◌, ℕ, zero, suc, ◌+◌, ◌*◌, false, List, [], ◌∷◌, Option, Some, None, length, slice_get}
-use Rattle.ax_ops.specs.declared.source.SourceEvent.{SourceEvent}
+use Rattle.ax_words.specs.declared.source.SourceEvent.{SourceEvent}
 use Rattle.ax_target.specs.declared.target.Target.{Target}
 use Rattle.ax_target.specs.declared.target.Target.TheVariants.{Rv}
-use Rattle.ax_ir.specs.declared.inst.Inst.{Inst}
-use Rattle.ax_ir.specs.declared.module.Module.{Module}
+use Rattle.ax_module.specs.declared.inst.Inst.{Inst}
+use Rattle.ax_module.specs.declared.module.Module.{Module}
 use Rattle.ax_layout.specs.declared.span.Span.{Span}
 use Rattle.ax_layout.specs.Layout.{LayoutState, layout_of}
-use Rattle.ax_layout.specs.SourcePointers.{insts_of}
-use Rattle.ax_layout.specs.SourceRun.{first_numbers, source_run, source_start}
-use Rattle.ax_layout.specs.SourceState.{SourceProcessor, SourceProgram, SourceState, Number}
+use Rattle.ax_source_run.specs.SourcePointers.{insts_of}
+use Rattle.ax_source_run.specs.SourceRun.{first_numbers, source_run, source_start}
+use Rattle.ax_source_run.specs.SourceState.{SourceProcessor, SourceProgram, SourceState, Number}
 use Rattle.ax_first.specs.declared.first.First.{First}
 use Rattle.ax_first.specs.declared.first.FirstInst.{FirstInst}
 use Rattle.ax_first.specs.declared.module.FirstModule.{FirstModule}

@@ -2,27 +2,27 @@
 use Rattle.std.specs.Prelude.{codes, ℕ, ◌-◌, ◌^◌, ℤ, pos, negsuc, Bool, true, false, ◌&&◌, ◌==◌, nat_lt, nat_le, nat_eq, if◌then◌else◌, List, [], ◌∷◌, ◌++◌, length, map, Option, Some, None, slice_get}
 use Rattle.std.specs.Cmp.Lexicographic.{pointwise}
 use Rattle.std.specs.Option.{option_and_then, option_map}
-use Rattle.ax_ops.specs.declared.operation.RmwOp.TheVariants as rmw
-use Rattle.ax_ops.specs.declared.order.Access.{Access}
-use Rattle.ax_ops.specs.declared.order.Access.TheVariants as access
-use Rattle.ax_ops.specs.declared.order.Order.{Order}
-use Rattle.ax_ops.specs.declared.order.Order.TheVariants.{Unordered}
-use Rattle.ax_ops.specs.Orders.{abi_of, is_legal}
-use Rattle.ax_ir.specs.declared.inst.Inst.{Inst}
-use Rattle.ax_ir.specs.declared.inst.Inst.TheVariants.{RetVoid, LoadAtomic, StoreAtomic, Rmw, Call}
-use Rattle.ax_ir.specs.declared.module.Block.{Block}
-use Rattle.ax_ir.specs.declared.module.Function.{Function}
-use Rattle.ax_ir.specs.declared.module.Global.{Global}
-use Rattle.ax_ir.specs.declared.module.Module.{Module}
-use Rattle.ax_ir.specs.declared.operand.Addr.{Addr}
-use Rattle.ax_ir.specs.declared.operand.Arg.{Arg}
-use Rattle.ax_ir.specs.declared.operand.Arg.TheVariants as arg
-use Rattle.ax_ir.specs.declared.operand.Base.{Base}
-use Rattle.ax_ir.specs.declared.operand.Base.TheVariants as base
-use Rattle.ax_ir.specs.declared.operand.Operand.{Operand}
-use Rattle.ax_ir.specs.declared.operand.Operand.TheVariants as operand
-use Rattle.ax_ir.specs.declared.types.Ty.{Ty}
-use Rattle.ax_ir.specs.declared.types.Ty.TheVariants.{I64}
+use Rattle.ax_words.specs.declared.operation.RmwOp.TheVariants as rmw
+use Rattle.ax_words.specs.declared.order.Access.{Access}
+use Rattle.ax_words.specs.declared.order.Access.TheVariants as access
+use Rattle.ax_words.specs.declared.order.Order.{Order}
+use Rattle.ax_words.specs.declared.order.Order.TheVariants.{Unordered}
+use Rattle.ax_words.specs.Orders.{abi_of, is_legal}
+use Rattle.ax_module.specs.declared.inst.Inst.{Inst}
+use Rattle.ax_module.specs.declared.inst.Inst.TheVariants.{RetVoid, LoadAtomic, StoreAtomic, Rmw, Call}
+use Rattle.ax_module.specs.declared.module.Block.{Block}
+use Rattle.ax_module.specs.declared.module.Function.{Function}
+use Rattle.ax_module.specs.declared.module.Global.{Global}
+use Rattle.ax_module.specs.declared.module.Module.{Module}
+use Rattle.ax_module.specs.declared.operand.Addr.{Addr}
+use Rattle.ax_module.specs.declared.operand.Arg.{Arg}
+use Rattle.ax_module.specs.declared.operand.Arg.TheVariants as arg
+use Rattle.ax_module.specs.declared.operand.Base.{Base}
+use Rattle.ax_module.specs.declared.operand.Base.TheVariants as base
+use Rattle.ax_module.specs.declared.operand.Operand.{Operand}
+use Rattle.ax_module.specs.declared.operand.Operand.TheVariants as operand
+use Rattle.ax_module.specs.declared.types.Ty.{Ty}
+use Rattle.ax_module.specs.declared.types.Ty.TheVariants.{I64}
 use Rattle.ax_first.specs.declared.first.FirstInst.{FirstInst}
 use Rattle.ax_first.specs.declared.first.FirstInst.TheVariants as first
 use Rattle.ax_first.specs.declared.first.FirstValue.{FirstValue}

@@ -1,9 +1,9 @@
 -- The source machine: *Source state*, *Source event*, *Source run*.
 use Rattle.std.specs.Prelude.{◌≡◌, ℕ, ◌+◌, ◌%◌, ◌^◌, Bool, if◌then◌else◌, nat_eq, List, [], ◌∷◌, ◌++◌, Option, Some, None, slice_get, slice_index_or, length}
-use Rattle.ax_ops.specs.declared.source.SourceEvent.{SourceEvent}
-use Rattle.ax_ops.specs.declared.source.SourceEvent.TheVariants.{Act, Look, Miss, Drain}
-use Rattle.ax_ops.specs.declared.source.SourceStatus.{SourceStatus}
-use Rattle.ax_ops.specs.declared.source.SourceStatus.TheVariants.{Running, Ended, Trapped}
+use Rattle.ax_words.specs.declared.source.SourceEvent.{SourceEvent}
+use Rattle.ax_words.specs.declared.source.SourceEvent.TheVariants.{Act, Look, Miss, Drain}
+use Rattle.ax_words.specs.declared.source.SourceStatus.{SourceStatus}
+use Rattle.ax_words.specs.declared.source.SourceStatus.TheVariants.{Running, Ended, Trapped}
 use Rattle.ax_first.specs.declared.first.First.{First}
 use Rattle.ax_first.specs.declared.first.FirstInst.{FirstInst}
 use Rattle.ax_first.specs.declared.first.FirstInst.TheVariants.{Load, Store, Add, Out, Ret}

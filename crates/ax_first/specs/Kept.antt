@@ -1,6 +1,6 @@
 -- What every module of the first kind keeps.
 use Rattle.std.specs.Prelude.{◌≡◌, ◌<◌, length, map, Some}
-use Rattle.ax_ir.specs.declared.module.Module.{Module}
+use Rattle.ax_module.specs.declared.module.Module.{Module}
 use Rattle.ax_first.specs.WellFormed.{IsFirst, IsWithinLimits}
 use Rattle.ax_first.specs.declared.module.FirstModule.{FirstModule}
 use Rattle.ax_first.specs.FirstKind.{first_of}

@@ -6,7 +6,7 @@ ghost use Rattle.ax_first.specs.FirstKind.{insts_after, is_return, ends_in_retur
 
 use crate::first::FirstInst;
 use crate::inst::inst_of;
-use ax_ir::{Block, Function, Inst};
+use ax_module::{Block, Function, Inst};
 use std::alloc::{AllocError, Global};
 
 fn insts_of(

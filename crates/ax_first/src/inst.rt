@@ -5,8 +5,8 @@ ghost use Rattle.ax_first.specs.FirstKind.{inst_of, load_of, store_of, addition_
 
 use crate::first::FirstInst;
 use crate::value::{global_of, is_i64, operand_of, order_of};
-use ax_ir::{Addr, Arg, Inst, Name, Operand, Ty};
-use ax_ops::{Access, Order, RmwOp};
+use ax_module::{Addr, Arg, Inst, Name, Operand, Ty};
+use ax_words::{Access, Order, RmwOp};
 
 fn is_plain_access(ty: Ty, align: u64) -> bool
     ensures { result ≡ is_plain_access ty align }

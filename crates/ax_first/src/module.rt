@@ -9,12 +9,12 @@ use crate::body::function_of;
 use crate::first::{First, FirstInst};
 use crate::names::{function_names, global_names};
 use crate::value::{constant_of, is_i64};
-use ax_ir::{Function, Global as Variable, Module, Name, Operand};
-use ax_ops::Items;
+use ax_module::{Function, Global as Variable, Module, Name, Operand};
+use ax_words::Items;
 use std::alloc::{AllocError, Global};
 
 /// A module of the first kind: the names of its globals and functions, and its program.
-#[derive(Debug, PartialEq, Eq, Drop)]
+#[derive(Drop)]
 pub struct FirstModule {
     pub globals: Items<Name>,
     pub functions: Items<Name>,

@@ -2,7 +2,7 @@
 
 ghost use Rattle.std.specs.Prelude.{◌≡◌, IfOk, map};
 
-use ax_ir::{Function, Global as Variable, Name};
+use ax_module::{Function, Global as Variable, Name};
 use std::alloc::{AllocError, Global};
 
 fn copied(alloc: Global, name: &Name) -> Result<Name, AllocError>

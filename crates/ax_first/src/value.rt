@@ -4,8 +4,8 @@ ghost use Rattle.std.specs.Prelude.{◌≡◌};
 ghost use Rattle.ax_first.specs.FirstKind.{is_i64, number_of, constant_of, has_result, operand_of, global_of, order_of};
 
 use crate::first::{FirstInst, FirstValue};
-use ax_ir::{Addr, Base, Operand, Ty};
-use ax_ops::{Access, Order, abi_number, legal};
+use ax_module::{Addr, Base, Operand, Ty};
+use ax_words::{Access, Order, abi_number, legal};
 
 pub(crate) fn is_i64(ty: Ty) -> bool
     ensures { result ≡ is_i64 ty }

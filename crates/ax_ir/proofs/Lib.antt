@@ -1,3 +1,2 @@
 mod Appended
-mod Ascii
 mod Lines

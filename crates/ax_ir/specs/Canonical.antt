@@ -1,13 +1,13 @@
 -- The canonical text of a module: globals, and then functions, a line each and one for each of their blocks and instructions.
 use Rattle.std.specs.Prelude.{ℕ, ◌+◌, ◌==◌, Bool, true, false, if◌then◌else◌, List, [], ◌∷◌, ◌++◌, length, map, flat_map, codes, decimal}
-use Rattle.ax_ir.specs.declared.types.Ty.{Ty}
-use Rattle.ax_ir.specs.declared.operand.Operand.{Operand}
-use Rattle.ax_ir.specs.declared.inst.Inst.{Inst}
-use Rattle.ax_ir.specs.declared.module.Global.{Global}
-use Rattle.ax_ir.specs.declared.module.Block.{Block}
-use Rattle.ax_ir.specs.declared.module.Function.{Function}
-use Rattle.ax_ir.specs.declared.module.Module.{Module}
-use Rattle.ax_ir.specs.Names.{global_token}
+use Rattle.ax_module.specs.declared.types.Ty.{Ty}
+use Rattle.ax_module.specs.declared.operand.Operand.{Operand}
+use Rattle.ax_module.specs.declared.inst.Inst.{Inst}
+use Rattle.ax_module.specs.declared.module.Global.{Global}
+use Rattle.ax_module.specs.declared.module.Block.{Block}
+use Rattle.ax_module.specs.declared.module.Function.{Function}
+use Rattle.ax_module.specs.declared.module.Module.{Module}
+use Rattle.ax_module.specs.Names.{global_token}
 use Rattle.ax_ir.specs.Spacing.{spaced}
 use Rattle.ax_ir.specs.OperandTokens.{parted, type_tokens, elements_tokens, align_tokens, operand_token, param_token, typed_tokens}
 use Rattle.ax_ir.specs.InstTokens.{numbered_inst_tokens}

@@ -1,15 +1,15 @@
 -- The tokens of instructions in the canonical text.
 use Rattle.std.specs.Prelude.{ℕ, Bool, if◌then◌else◌, Option, Some, None, List, [], ◌∷◌, ◌++◌, codes, decimal}
-use Rattle.ax_ops.specs.Operation.{operation_word}
-use Rattle.ax_ops.specs.Orders.{order_word}
-use Rattle.ax_ir.specs.declared.types.Ty.{Ty}
-use Rattle.ax_ir.specs.declared.operand.Operand.{Operand}
-use Rattle.ax_ir.specs.declared.inst.Inst.{Inst}
-use Rattle.ax_ir.specs.declared.inst.Inst.TheVariants.{Bin, Icmp, Select, Convert, Phi, Jump, Branch, RetVoid, Ret, Unreachable, Alloca, Gep, Load, LoadAtomic, Store, StoreAtomic, Cmpxchg, Rmw, Fence, Extract, Call}
-use Rattle.ax_ir.specs.Kinds.{has_result}
-use Rattle.ax_ir.specs.Names.{global_token}
+use Rattle.ax_words.specs.Operation.{operation_word}
+use Rattle.ax_words.specs.Orders.{order_word}
+use Rattle.ax_module.specs.declared.types.Ty.{Ty}
+use Rattle.ax_module.specs.declared.operand.Operand.{Operand}
+use Rattle.ax_module.specs.declared.inst.Inst.{Inst}
+use Rattle.ax_module.specs.declared.inst.Inst.TheVariants.{Bin, Icmp, Select, Convert, Phi, Jump, Branch, RetVoid, Ret, Unreachable, Alloca, Gep, Load, LoadAtomic, Store, StoreAtomic, Cmpxchg, Rmw, Fence, Extract, Call}
+use Rattle.ax_module.specs.Kinds.{has_result}
+use Rattle.ax_module.specs.Names.{global_token}
 use Rattle.ax_ir.specs.OperandTokens.{parted, type_tokens, elements_tokens, align_tokens, value_token, block_token, label_tokens, operand_token, typed_tokens, gep_tokens, addr_tokens, arg_tokens}
-use Rattle.ax_ir.specs.Words.{binary_word, condition_word, cast_word}
+use Rattle.ax_module.specs.Words.{binary_word, condition_word, cast_word}
 
 unfoldable pub entry_tokens : Operand × ℕ → List (List ℕ)
 entry_tokens e = codes "[" ∷ operand_token e.0 ∷ codes "," ∷ block_token e.1 ∷ codes "]" ∷ []
@@ -52,11 +52,6 @@ inst_tokens names (Rmw op a t v order align) = codes "atomicrmw" ∷ operation_w
 inst_tokens names (Fence single_thread order) = codes "fence" ∷ scope_tokens single_thread ++ order_word order ∷ []
 inst_tokens names (Extract t v part) = codes "extractvalue" ∷ pair_tokens t ++ operand_token v ∷ codes "," ∷ decimal part ∷ []
 inst_tokens names (Call t name args) = codes "call" ∷ result_type_tokens t ++ global_token name ∷ codes "(" ∷ parted (arg_tokens names) args ++ codes ")" ∷ []
-
--- the name of what it calls
-unfoldable pub called_name : Inst → List ℕ
-called_name (Call t name args) = name
-called_name _ = []
 
 -- its result in front, where it has one
 abbrev pub result_tokens : ℕ → Inst → List (List ℕ)

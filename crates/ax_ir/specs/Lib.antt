@@ -1,11 +1,4 @@
-pub mod Types
-pub mod Names
-pub mod Ranges
-pub mod Kinds
-pub mod Words
-pub mod Spacing
-pub mod OperandTokens
-pub mod InstTokens
-pub mod Ascii
-pub mod WellFormed
 pub mod Canonical
+pub mod InstTokens
+pub mod OperandTokens
+pub mod Spacing

@@ -1,16 +1,15 @@
 //! The canonical text of a module.
 
 ghost use Rattle.std.specs.Prelude.{◌≡◌, ◌+◌, ◌<◌, ◌^◌, [], ◌∷◌, ◌++◌, codes, map, flat_map, All, IfOk, OnOk, string_bytes};
-ghost use Rattle.ax_ir.specs.Ascii.{CallsAscii, NamesAscii};
-ghost use Rattle.ax_ir.specs.Names.{IsAscii};
-ghost use Rattle.ax_ir.specs.WellFormed.{IsModule};
-ghost use Rattle.ax_ir.specs.InstTokens.{called_name, numbered_inst_tokens};
+ghost use Rattle.ax_module.specs.Ascii.{CallsAscii, NamesAscii};
+ghost use Rattle.ax_module.specs.Names.{IsAscii};
+ghost use Rattle.ax_module.specs.WellFormed.{IsModule};
+ghost use Rattle.ax_module.specs.Ascii.{called_name};
+ghost use Rattle.ax_ir.specs.InstTokens.{numbered_inst_tokens};
 ghost use Rattle.ax_ir.specs.Canonical.{line_text, flush, indented, global_line, define_tokens, label_line, inst_lines, blocks_lines, function_lines, names_tokens, module_text};
 
-use crate::inst::Inst;
-use crate::module;
-use crate::module::{Block, Function, Module};
 use crate::tokens::Tokens;
+use ax_module::{Block, Function, Inst, Module, module};
 use std::alloc::{AllocError, Global};
 
 /// The canonical text of a module in LLVM's language, which spells the module and nothing else: one

@@ -1,14 +1,12 @@
 //! The tokens of globals and of the heads of functions.
 
 ghost use Rattle.std.specs.Prelude.{◌≡◌, ◌++◌, OnOk};
-ghost use Rattle.ax_ir.specs.Names.{IsAscii};
+ghost use Rattle.ax_module.specs.Names.{IsAscii};
 ghost use Rattle.ax_ir.specs.OperandTokens.{parted, typed_tokens};
 ghost use Rattle.ax_ir.specs.Canonical.{zero_token, init_tokens, global_tokens, numbered_param_tokens, params_tokens, function_result_tokens, define_tokens};
 
-use crate::module::{Function, Global};
-use crate::operand::Operand;
 use crate::tokens::Tokens;
-use crate::types::Ty;
+use ax_module::{Function, Global, Operand, Ty};
 use std::alloc::AllocError;
 
 impl Tokens {

@@ -1,16 +1,14 @@
 //! The tokens of instructions.
 
 ghost use Rattle.std.specs.Prelude.{◌≡◌, ◌∷◌, ◌++◌, [], OnOk};
-ghost use Rattle.ax_ir.specs.Names.{IsAscii};
+ghost use Rattle.ax_module.specs.Names.{IsAscii};
 ghost use Rattle.ax_ir.specs.OperandTokens.{parted, arg_tokens};
-ghost use Rattle.ax_ir.specs.InstTokens.{entry_tokens, result_type_tokens, weak_tokens, scope_tokens, pair_tokens, inst_tokens, called_name, result_tokens, numbered_inst_tokens};
+ghost use Rattle.ax_module.specs.Ascii.{called_name};
+ghost use Rattle.ax_ir.specs.InstTokens.{entry_tokens, result_type_tokens, weak_tokens, scope_tokens, pair_tokens, inst_tokens, result_tokens, numbered_inst_tokens};
 
-use crate::inst::{BinOp, Cast, Inst, Pred};
-use crate::names::Name;
-use crate::operand::{Addr, Arg, Base, Operand};
 use crate::tokens::Tokens;
-use crate::types::Ty;
-use ax_ops::{Order, RmwOp};
+use ax_module::{Addr, Arg, Base, BinOp, Cast, Inst, Name, Operand, Pred, Ty};
+use ax_words::{Order, RmwOp};
 use std::alloc::AllocError;
 
 impl Tokens {
@@ -38,7 +36,7 @@ impl Tokens {
         Ok(())
     }
 
-    #[tactic(auto, unfolding(crate::specs::InstTokens::inst_tokens, crate::specs::InstTokens::called_name))]
+    #[tactic(auto, unfolding(crate::specs::InstTokens::inst_tokens, ax_module::specs::Ascii::called_name))]
     fn inst(&mut self, names: &Tokens, inst: &Inst) -> Result<(), AllocError>
         requires { IsAscii (called_name inst.now) }
         ensures { OnOk result (self.new ≡ self.old ++ inst_tokens names.now inst.now) }

@@ -3,9 +3,8 @@
 ghost use Rattle.std.specs.Prelude.{◌≡◌, ◌∷◌, ◌++◌, [], OnOk};
 ghost use Rattle.ax_ir.specs.OperandTokens.{type_tokens, array_tokens, elements_tokens, align_tokens, value_token, block_token, label_tokens, operand_token, typed_tokens, base_token, pointer_tokens, gep_tokens, constant_gep_tokens, addr_tokens, arg_tokens};
 
-use crate::operand::{Addr, Arg, Base, Operand};
 use crate::tokens::Tokens;
-use crate::types::Ty;
+use ax_module::{Addr, Arg, Base, Operand, Ty};
 use std::alloc::AllocError;
 
 impl Tokens {

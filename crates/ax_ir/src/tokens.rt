@@ -2,15 +2,15 @@
 
 ghost use Rattle.std.specs.Prelude.{◌≡◌, [], ◌∷◌, ◌++◌, decimal, map, slice_index_or, OnOk, string_bytes};
 ghost use Rattle.std.specs.Fmt.{signed_decimal};
-ghost use Rattle.ax_ir.specs.Names.{IsAscii, global_token};
+ghost use Rattle.ax_module.specs.Names.{IsAscii, global_token};
 ghost use Rattle.ax_ir.specs.Spacing.{is_closing, is_opening, spaced};
 
-use crate::names::Name;
+use ax_module::Name;
 use std::alloc::{AllocError, Global};
 use std::marker::Model;
 
 /// A token, seen by contracts as its bytes.
-#[derive(Debug, Drop)]
+#[derive(Drop)]
 pub(crate) struct Token {
     text: String,
 }
@@ -24,7 +24,7 @@ impl Model for Token {
 }
 
 /// Tokens in order, as those of a line.
-#[derive(Debug, Drop)]
+#[derive(Drop)]
 pub(crate) struct Tokens {
     alloc: Global,
     tokens: Vec<Token>,

@@ -1,2 +1,6 @@
-pub mod Registers
+pub mod Functions
+pub mod Places
+pub mod RegisterLemmas
 pub mod Storages
+pub mod Readied
+pub mod Made

@@ -1,5 +1,7 @@
 pub mod Processor
+pub mod Past
 pub mod Steps
 pub mod Effects
+pub mod Tells
 pub mod Run
-pub mod Contract
+pub mod Stepping

@@ -1,21 +1,24 @@
 //! Processors, effects of instructions, images, and the machine run.
 #![tactic(auto)]
 
-pub mod cpu;
-pub mod effects;
-pub mod events;
-pub mod images;
-pub mod isa;
-pub mod step;
-pub mod tags;
+mod cpu;
+mod effects;
+mod images;
+mod isa;
+mod locked;
+mod performing;
+mod place;
+mod pseudo;
+mod registers;
+mod shown;
+mod tell;
 
+pub use ax_tags::{Role, Tag};
 pub use cpu::{Cpu, Status};
-pub use effects::{Effect, Outcome};
-pub use events::Event;
-pub use images::{Image, SiteRange};
+pub use effects::{Back, Change, Effect, Outcome, Rest, Saved};
+pub use images::{Image, RoutineRange, SiteRange};
 pub use isa::Isa;
-pub use step::step_effect;
-pub use tags::Tag;
-
-#[cfg(test)]
-mod tests;
+pub use performing::step_effect;
+pub use place::{at_place, flushes, step};
+pub use pseudo::Pseudo;
+pub use shown::Shown;

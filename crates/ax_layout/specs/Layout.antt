@@ -2,11 +2,11 @@
 pub use Rattle.ax_layout.specs.LayoutState.{LayoutState, end_of_span}
 use Rattle.std.specs.Prelude.{◌≤◌, ◌<◌, ◌+◌, ◌-◌, ◌*◌, ◌/◌, ℕ, Bool, true, false, IsTrue, List, [], ◌∷◌, Option, Some, None, All, length, nat_eq, slice_index_or, unwrap_or}
 use Rattle.std.specs.List.{list_any}
-use Rattle.ax_ir.specs.declared.module.Global.{Global}
-use Rattle.ax_ir.specs.declared.module.Module.{Module}
-use Rattle.ax_ir.specs.declared.types.Ty.{Ty}
-use Rattle.ax_ir.specs.declared.types.Ty.TheVariants.{I8, I16, I32, I64, I128}
-use Rattle.ax_ir.specs.Types.{type_bytes}
+use Rattle.ax_module.specs.declared.module.Global.{Global}
+use Rattle.ax_module.specs.declared.module.Module.{Module}
+use Rattle.ax_module.specs.declared.types.Ty.{Ty}
+use Rattle.ax_module.specs.declared.types.Ty.TheVariants.{I8, I16, I32, I64, I128}
+use Rattle.ax_module.specs.Types.{type_bytes}
 use Rattle.ax_layout.specs.declared.span.Span.{Span}
 
 -- the types of elements: whole numbers of 8 to 128 bits

@@ -2,12 +2,3 @@ pub mod Classes
 pub mod Layout
 pub mod LayoutState
 pub mod Regions
-pub mod SourceAccess
-pub mod SourceCalls
-pub mod SourceEvent
-pub mod SourceInstructions
-pub mod SourceLaws
-pub mod SourcePointers
-pub mod SourceRun
-pub mod SourceState
-pub mod SourceValues

@@ -1,8 +1,8 @@
 -- Where bytes of objects, of lock words and of frames lie.
 use Rattle.std.specs.Prelude.{◌≡◌, ℕ, ◌+◌, ◌*◌, ◌≤◌, ◌<◌, ◌%◌, Bool, false, ◌&&◌, IsTrue, Some, length, nat_le, nat_lt, slice_get}
-use Rattle.ax_ir.specs.declared.module.Global.{Global}
-use Rattle.ax_ir.specs.declared.module.Module.{Module}
-use Rattle.ax_ir.specs.Types.{type_bytes}
+use Rattle.ax_module.specs.declared.module.Global.{Global}
+use Rattle.ax_module.specs.declared.module.Module.{Module}
+use Rattle.ax_module.specs.Types.{type_bytes}
 use Rattle.ax_target.specs.declared.target.Target.{Target}
 use Rattle.ax_layout.specs.Classes.{class_of, lock_word}
 use Rattle.ax_layout.specs.Layout.{CanBeLaidOut, HasElement, LayoutState, address_in, alignment_of, bytes_in, count_in, globals_limit, globals_start, layout_of, next_multiple}

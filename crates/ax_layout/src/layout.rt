@@ -4,8 +4,8 @@ ghost use Rattle.std.specs.Prelude.{◌≡◌, IfOk};
 ghost use Rattle.ax_layout.specs.Layout.{CanBeLaidOut, HasElement, address_in, layout_of};
 
 use crate::span::{Span, next_span};
-use ax_ir::Module;
-use ax_ops::Items;
+use ax_module::Module;
+use ax_words::Items;
 use std::alloc::{AllocError, Global};
 use std::marker::Model;
 
@@ -13,7 +13,7 @@ use std::marker::Model;
 ///
 /// Globals lie from 0x10000 on in the order of the text, each at the next multiple of its
 /// alignment, and elements follow one another at their size.
-#[derive(Debug, Drop)]
+#[derive(Drop)]
 pub struct Layout {
     spans: Items<Span>,
     end: u64,

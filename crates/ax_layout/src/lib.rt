@@ -7,13 +7,9 @@ pub mod layout;
 pub mod locks;
 pub mod objects;
 pub mod regions;
-pub mod source;
 pub mod span;
 
 pub use classes::Class;
 pub use layout::Layout;
 pub use locks::lock_index;
 pub use objects::class;
-
-#[cfg(test)]
-mod tests;

@@ -1,13 +1,13 @@
 //! The class of an object.
 
 ghost use Rattle.std.specs.Prelude.{◌≡◌, ◌↔◌, ◌≤◌, ◌%◌};
-ghost use Rattle.ax_ops.specs.Width.{bytes_of};
+ghost use Rattle.ax_words.specs.Width.{bytes_of};
 ghost use Rattle.ax_target.specs.Targets.{greatest_native};
 ghost use Rattle.ax_layout.specs.Classes.{class_of};
 
 use crate::classes::Class;
-use ax_ops::Width;
 use ax_target::{Target, max_native};
+use ax_words::Width;
 
 /// The class of the object of this width at an address: native exactly where the target reaches
 /// its size and the address is a multiple of it.

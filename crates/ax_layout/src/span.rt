@@ -3,10 +3,10 @@
 ghost use Rattle.std.specs.Prelude.{◌≡◌, ◌≤◌};
 ghost use Rattle.ax_layout.specs.Layout.{IsLaidOut, span_after, end_of_span};
 
-use ax_ir::module;
+use ax_module::module;
 
 /// Where a global lies: its first address, the bytes of an element, and how many elements it has.
-#[derive(Clone, Copy, Debug, PartialEq, Eq)]
+#[derive(Clone, Copy)]
 pub struct Span {
     pub start: u64,
     pub bytes: u64,

@@ -4,7 +4,7 @@ ghost use Rattle.std.specs.Prelude.{◌≡◌};
 ghost use Rattle.ax_lex.specs.Bytes.{is_letter, is_digit, is_name_byte, is_meta_byte, is_literal_byte, is_text_byte, is_blank, is_mark, start_of};
 
 /// What a byte starts.
-#[derive(Clone, Copy, Debug, PartialEq, Eq)]
+#[derive(Clone, Copy)]
 pub enum Start {
     Letter,
     Percent,
@@ -25,6 +25,7 @@ pub fn is_letter(b: u8) -> bool
     (b >= b'A' && b <= b'Z') || (b >= b'a' && b <= b'z') || b == b'_'
 }
 
+/// Whether a byte is a decimal digit, from `0` to `9`.
 pub fn is_digit(b: u8) -> bool
     ensures { result ≡ is_digit b }
 {
@@ -55,6 +56,7 @@ pub fn is_text_byte(b: u8) -> bool
     b >= b' ' && b <= b'~' && b != b'"'
 }
 
+/// Whether a byte is a blank of a text: a space, a tab or a carriage return.
 pub fn is_blank(b: u8) -> bool
     ensures { result ≡ is_blank b }
 {

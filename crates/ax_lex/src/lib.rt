@@ -6,11 +6,13 @@
 
 mod bytes;
 mod lexer;
+mod name;
+mod number;
 mod scan;
 mod token;
 
+pub use bytes::{is_blank, is_digit};
 pub use lexer::tokens;
+pub use name::global_name;
+pub use number::decimal;
 pub use token::{LexFault, Token, TokenKind, text_of};
-
-#[cfg(test)]
-mod tests;

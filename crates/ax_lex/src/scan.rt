@@ -39,7 +39,8 @@ fn literal_run(bytes: &[u8]) -> usize
     bytes.iter().take_while(|b| is_literal_byte(**b)).count()
 }
 
-fn text_run(bytes: &[u8]) -> usize
+/// How many bytes at the front may stand in a quoted text.
+pub fn text_run(bytes: &[u8]) -> usize
     ensures is { result ≡ text_run bytes.now }
     ensures within { result ≤ length bytes.now }
 {

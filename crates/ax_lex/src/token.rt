@@ -5,9 +5,10 @@ ghost use Rattle.ax_lex.specs.declared.token.LexFault.TheVariants.{Memory};
 ghost use Rattle.ax_lex.specs.Tokens.{text_at};
 
 use std::alloc::{AllocError, AllocFailed};
+use thiserror::Error;
 
 /// What a token is.
-#[derive(Clone, Copy, Debug, PartialEq, Eq)]
+#[derive(Clone, Copy)]
 pub enum TokenKind {
     /// A letter or `_`, then letters, digits, `_`, `.`, `-`, `$`.
     Word,
@@ -30,7 +31,7 @@ pub enum TokenKind {
 }
 
 /// A token: its kind, and the bytes of the text from `start` to before `end`.
-#[derive(Clone, Copy, Debug, PartialEq, Eq)]
+#[derive(Clone, Copy)]
 pub struct Token {
     pub kind: TokenKind,
     pub start: usize,
@@ -38,11 +39,13 @@ pub struct Token {
 }
 
 /// Why a text has no tokens.
-#[derive(Clone, Copy, Debug, PartialEq, Eq, Drop)]
+#[derive(Clone, Copy, Debug, Error)]
 pub enum LexFault {
     /// The first place at which no token starts.
+    #[error("no token starts at byte {at}")]
     Byte { at: usize },
-    /// Memory was wanting.
+    /// Memory ran out.
+    #[error("memory ran out")]
     Memory,
 }
 

@@ -1,7 +1,2 @@
-pub mod SameSign
-pub mod Passing
-pub mod Closing
-pub mod Exact
-pub mod Commas
-pub mod SymbolLemmas
 pub mod Places
+pub mod Parameters

@@ -2,22 +2,22 @@
 use Rattle.std.proofs.Common.{◌≡◌, ℕ, ◌+◌, List, [], ◌∷◌, ◌++◌, length, Option, Some, None, map, refl, sym, ap, subst, ◌∙◌, arith, append_assoc, inl, inr, Bool, true, false, cond, take, drop, one-add, suc, ◌-◌, ◌<◌, ◌≤◌, Bor}
 use Rattle.std.specs.Prelude.{not, MatchOption}
 use Rattle.std.specs.List.{slice_split, onto_first, position_or_len}
-use Rattle.ax_lines.specs.declared.symbol.Symbol.{Symbol}
+use Rattle.ax_symbols.specs.declared.symbol.Symbol.{Symbol}
 use Rattle.ax_lines.specs.declared.statement.Line.{Line}
 use Rattle.ax_lines.specs.declared.statement.Place.{Place}
 use Rattle.ax_lines.specs.declared.statement.Place.TheVariants as place
 use Rattle.std.proofs.lemmas.List.{length-append, length-map, append-nil, length-drop, take_all}
 use Rattle.std.proofs.lemmas.Option.{same_Some}
-use Rattle.ax_lines.specs.Grammar.{Grammar, IsLine, reads, all_of}
+use Rattle.ax_symbols.specs.Grammar.{Grammar, IsLine, reads, all_of}
 use Rattle.ax_lines.specs.Productions.{line_at, place_after}
-use Rattle.ax_lines.specs.Symbols.{is_feed}
+use Rattle.ax_symbols.specs.Symbols.{is_feed}
 use Rattle.ax_lines.specs.Lines.{InPlace, AreLines, lines_of, IsBadLine, IsSyntax, IsOpcode, is_opcode_fault}
 use Rattle.ax_lines.specs.declared.fault.LineFault.{LineFault}
 use Rattle.ax_lines.specs.declared.fault.LineFault.TheVariants.{Syntax, Opcode, Memory}
-use Rattle.ax_lines.specs.Faults.{IsLineFault, NoLine, FaultWithin}
+use Rattle.ax_lines.specs.Faults.{IsLineFault, HaveFault, IsOrMemory, NoLine, FaultWithin}
 use Rattle.ax_lex.specs.declared.token.Token.{Token}
-use Rattle.ax_lines.specs.Symbols.{symbol_of}
-use Rattle.ax_lines.proofs.Exact.{found, all_found}
+use Rattle.ax_symbols.specs.Symbols.{symbol_of}
+use Rattle.ax_symbols.proofs.Exact.{found, all_found}
 
 -- ---- the first line
 
@@ -152,11 +152,14 @@ split_lines p q (m ∷ before) l behind (y ∷ xs) h =
     let s = split_lines (place_after p y) q before l behind xs h.1 in
     (y ∷ s.0, s.1, s.2, (h.0, s.3), s.4)
 
-no_bad : (ls : List (List Symbol)) (xs : List Line) (number : ℕ) (opcode : Bool) → AreLines ls xs → IsBadLine ls number opcode → ⊥
-no_bad ls xs number opcode h b =
-    let s = split_lines place.Outside place.Outside b.before b.line b.behind xs (subst (λ (y : List (List Symbol)). InPlace place.Outside y xs place.Outside) b.whole h) in
+no_bad_in : (ls : List (List Symbol)) (xs : List Line) (q : Place) (number : ℕ) (opcode : Bool) → InPlace place.Outside ls xs q → IsBadLine ls number opcode → ⊥
+no_bad_in ls xs q number opcode h b =
+    let s = split_lines place.Outside q b.before b.line b.behind xs (subst (λ (y : List (List Symbol)). InPlace place.Outside y xs q) b.whole h) in
     let e = (same_lines place.Outside s.1 b.at b.before s.0 b.stated s.3 b.in_place).1 in
     b.bad s.2 (subst (λ (r : Place). IsLine (line_at r) b.line s.2) e s.4)
+
+no_bad : (ls : List (List Symbol)) (xs : List Line) (number : ℕ) (opcode : Bool) → AreLines ls xs → IsBadLine ls number opcode → ⊥
+no_bad ls xs number opcode h b = no_bad_in ls xs place.Outside number opcode h b
 
 -- lines that are a module have no fault
 pub no_line_fault : (ls : List (List Symbol)) (xs : List Line) (fault : LineFault) → AreLines ls xs → IsLineFault ls fault → fault ≡ Memory
@@ -165,8 +168,61 @@ no_line_fault ls xs (Syntax n) h (inr o) = absurd (o.inside (same_lines place.Ou
 no_line_fault ls xs (Opcode n) h b = absurd (no_bad ls xs n true h b)
 no_line_fault ls xs Memory h b = refl
 
+pub lines_faultless : (ls : List (List Symbol)) (xs : List Line) (fault : LineFault) → AreLines ls xs → HaveFault ls fault → ⊥
+lines_faultless ls xs (Syntax n) h (inl b) = no_bad ls xs n false h b
+lines_faultless ls xs (Syntax n) h (inr o) = o.inside (same_lines place.Outside o.at place.Outside ls o.stated xs o.in_place h).1
+lines_faultless ls xs (Opcode n) h b = no_bad ls xs n true h b
+lines_faultless ls xs Memory h b = b
+
 pub same_all : (ls : List (List Symbol)) (xs ys : List Line) → AreLines ls xs → AreLines ls ys → xs ≡ ys
 same_all ls xs ys h k = (same_lines place.Outside place.Outside place.Outside ls xs ys h k).0
+
+-- ---- only one fault
+
+-- two lines that are the first bad one are one
+same_bad : (p q r : Place) (b1 b2 : List (List Symbol)) (l1 l2 : List Symbol) (r1 r2 : List (List Symbol)) (xs ys : List Line) → InPlace p b1 xs q → InPlace p b2 ys r
+    → ((x : Line) → IsLine (line_at q) l1 x → ⊥) → ((x : Line) → IsLine (line_at r) l2 x → ⊥) → b1 ++ l1 ∷ r1 ≡ b2 ++ l2 ∷ r2 → (length b1 ≡ length b2) × (q ≡ r) × (l1 ≡ l2)
+same_bad p q r [] [] l1 l2 r1 r2 [] [] h k n m e = let s : l1 ≡ l2 = cc in (refl, sym h ∙ k, s)
+same_bad p q r [] [] l1 l2 r1 r2 [] (y ∷ ys) h k n m e = absurd k
+same_bad p q r [] [] l1 l2 r1 r2 (x ∷ xs) ys h k n m e = absurd h
+same_bad p q r [] (d ∷ b2) l1 l2 r1 r2 [] [] h k n m e = absurd k
+same_bad p q r [] (d ∷ b2) l1 l2 r1 r2 [] (y ∷ ys) h k n m e =
+    let s : d ≡ l1 = cc in
+    absurd (n y (subst (λ (z : Place). IsLine (line_at z) l1 y) h (subst (λ (z : List Symbol). IsLine (line_at p) z y) s k.0)))
+same_bad p q r [] (d ∷ b2) l1 l2 r1 r2 (x ∷ xs) ys h k n m e = absurd h
+same_bad p q r (c ∷ b1) [] l1 l2 r1 r2 [] ys h k n m e = absurd h
+same_bad p q r (c ∷ b1) [] l1 l2 r1 r2 (x ∷ xs) [] h k n m e =
+    let s : c ≡ l2 = cc in
+    absurd (m x (subst (λ (z : Place). IsLine (line_at z) l2 x) k (subst (λ (z : List Symbol). IsLine (line_at p) z x) s h.0)))
+same_bad p q r (c ∷ b1) [] l1 l2 r1 r2 (x ∷ xs) (y ∷ ys) h k n m e = absurd k
+same_bad p q r (c ∷ b1) (d ∷ b2) l1 l2 r1 r2 [] ys h k n m e = absurd h
+same_bad p q r (c ∷ b1) (d ∷ b2) l1 l2 r1 r2 (x ∷ xs) [] h k n m e = absurd k
+same_bad p q r (c ∷ b1) (d ∷ b2) l1 l2 r1 r2 (x ∷ xs) (y ∷ ys) h k n m e =
+    let s : d ≡ c = cc in
+    let t : b1 ++ l1 ∷ r1 ≡ b2 ++ l2 ∷ r2 = cc in
+    let f = line_same (line_at p) c x y h.0 (subst (λ (z : List Symbol). IsLine (line_at p) z y) s k.0) in
+    let g = same_bad (place_after p x) q r b1 b2 l1 l2 r1 r2 xs ys h.1 (subst (λ (z : Line). InPlace (place_after p z) b2 ys r) (sym f) k.1) n m t in
+    (ap suc g.0, g.1, g.2)
+
+one_bad : (ls : List (List Symbol)) (n m : ℕ) (o p : Bool) → IsBadLine ls n o → IsBadLine ls m p → (n ≡ m) × (o ≡ p)
+one_bad ls n m o p b c =
+    let s = same_bad place.Outside b.at c.at b.before c.before b.line c.line b.behind c.behind b.stated c.stated b.in_place c.in_place b.bad c.bad (sym b.whole ∙ c.whole) in
+    let k : is_opcode_fault b.at b.line ≡ is_opcode_fault c.at c.line = λ i. is_opcode_fault (s.1 i) (s.2 i) in
+    (omega (arith, b.is, c.is, s.0), sym b.kind ∙ k ∙ c.kind)
+
+pub one_fault : (ls : List (List Symbol)) (fault e : LineFault) → HaveFault ls fault → IsLineFault ls e → IsOrMemory fault e
+one_fault ls (Syntax n) (Syntax m) (inl b) (inl c) = ap (λ (k : ℕ). Syntax k) (one_bad ls m n false false c b).0
+one_fault ls (Syntax n) (Syntax m) (inl b) (inr o) = absurd (no_bad_in ls o.stated o.at n false o.in_place b)
+one_fault ls (Syntax n) (Syntax m) (inr o) (inl c) = absurd (no_bad_in ls o.stated o.at m false o.in_place c)
+one_fault ls (Syntax n) (Syntax m) (inr o) (inr w) = ap (λ (k : ℕ). Syntax k) (w.is ∙ sym o.is)
+one_fault ls (Syntax n) (Opcode m) (inl b) c = let f = (one_bad ls n m false true b c).1 in absurd cc
+one_fault ls (Syntax n) (Opcode m) (inr o) c = absurd (no_bad_in ls o.stated o.at m true o.in_place c)
+one_fault ls (Opcode n) (Syntax m) b (inl c) = let f = (one_bad ls n m true false b c).1 in absurd cc
+one_fault ls (Opcode n) (Syntax m) b (inr o) = absurd (no_bad_in ls o.stated o.at n true o.in_place b)
+one_fault ls (Opcode n) (Opcode m) b c = ap (λ (k : ℕ). Opcode k) (one_bad ls m n true true c b).0
+one_fault ls Memory e h k = absurd h
+one_fault ls (Syntax n) Memory h k = tt
+one_fault ls (Opcode n) Memory h k = tt
 
 -- ---- how many lines there are
 

@@ -1,13 +1,13 @@
 -- The faults of lines.
 use Rattle.std.specs.Prelude.{◌≡◌, ◌≤◌, ℕ, true, false, cond, List, Some, None, Result, Ok, Err}
-use Rattle.ax_lines.specs.declared.symbol.Symbol.{Symbol}
+use Rattle.ax_symbols.specs.declared.symbol.Symbol.{Symbol}
 use Rattle.ax_lines.specs.declared.statement.Place.{Place}
 use Rattle.ax_lines.specs.declared.listing.Stop.{Stop}
 use Rattle.ax_lines.specs.declared.listing.Stop.TheVariants as stop
 use Rattle.ax_lines.specs.declared.fault.LineFault.{LineFault}
 use Rattle.ax_lines.specs.declared.fault.LineFault.TheVariants.{Syntax, Opcode, Memory}
 use Rattle.ax_lines.specs.declared.statement.Line.{Line}
-use Rattle.ax_lines.specs.Grammar.{reads, all_of}
+use Rattle.ax_symbols.specs.Grammar.{reads, all_of}
 use Rattle.ax_lines.specs.Productions.{line_at}
 use Rattle.ax_lines.specs.Lines.{IsSyntax, IsOpcode, is_opcode_fault}
 
@@ -16,6 +16,18 @@ abbrev pub IsLineFault : List (List Symbol) → LineFault → Type 0
 IsLineFault ls (Syntax line) = IsSyntax ls line
 IsLineFault ls (Opcode line) = IsOpcode ls line
 IsLineFault ls Memory = Unit {0}
+
+-- The lines have this fault.
+abbrev pub HaveFault : List (List Symbol) → LineFault → Type 0
+HaveFault ls (Syntax line) = IsSyntax ls line
+HaveFault ls (Opcode line) = IsOpcode ls line
+HaveFault ls Memory = ⊥
+
+-- No fault but this one, or want of memory.
+abbrev pub IsOrMemory : LineFault → LineFault → Type 0
+IsOrMemory fault (Syntax line) = Syntax line ≡ fault
+IsOrMemory fault (Opcode line) = Opcode line ≡ fault
+IsOrMemory fault Memory = Unit {0}
 
 -- the fault of a line that is no production at its place
 abbrev pub fault_of : Stop → Place → List Symbol → ℕ → LineFault

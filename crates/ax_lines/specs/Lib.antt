@@ -1,10 +1,5 @@
-pub mod Signs
-pub mod Pieces
-pub mod Grammar
 pub mod Productions
 pub mod Lines
-pub mod Vectors
 pub mod Stops
 pub mod Stated
 pub mod Faults
-pub mod Symbols

@@ -1,19 +1,20 @@
 -- The lines of a text, each a production in its place, and the first that is none.
-use Rattle.std.specs.Prelude.{◌≡◌, ◌≢◌, ℕ, ◌+◌, Bool, true, false, not, ◌&&◌, cond, List, [], ◌∷◌, ◌++◌, length, map, ◌⊎◌}
+use Rattle.std.specs.Prelude.{◌≡◌, ◌≢◌, ℕ, ◌+◌, ◌≤◌, Bool, true, false, not, ◌&&◌, ◌==◌, cond, List, [], ◌∷◌, ◌++◌, length, map, ◌⊎◌}
 use Rattle.std.specs.List.{slice_split}
 use Rattle.ax_lex.specs.declared.token.Token.{Token}
-use Rattle.ax_lines.specs.declared.symbol.Word.{Word}
-use Rattle.ax_lines.specs.declared.symbol.Word.TheVariants as word
-use Rattle.ax_lines.specs.declared.symbol.Punctuation.TheVariants as mark
-use Rattle.ax_lines.specs.declared.symbol.Sign.{Sign}
-use Rattle.ax_lines.specs.declared.symbol.Sign.TheVariants as sign
-use Rattle.ax_lines.specs.declared.symbol.Symbol.{Symbol}
+use Rattle.ax_symbols.specs.declared.vocabulary.Word.{Word}
+use Rattle.ax_symbols.specs.declared.vocabulary.Word.TheVariants as word
+use Rattle.ax_symbols.specs.declared.symbol.Punctuation.TheVariants as mark
+use Rattle.ax_symbols.specs.declared.symbol.Sign.{Sign}
+use Rattle.ax_symbols.specs.declared.symbol.Sign.TheVariants as sign
+use Rattle.ax_symbols.specs.declared.symbol.Symbol.{Symbol}
 use Rattle.ax_lines.specs.declared.statement.Line.{Line}
+use Rattle.ax_lines.specs.declared.statement.Line.TheVariants as line
 use Rattle.ax_lines.specs.declared.statement.Place.{Place}
 use Rattle.ax_lines.specs.declared.statement.Place.TheVariants as place
-use Rattle.ax_lines.specs.Pieces.{sign_at}
-use Rattle.ax_lines.specs.Symbols.{symbol_of, is_feed}
-use Rattle.ax_lines.specs.Grammar.{IsLine}
+use Rattle.ax_symbols.specs.Pieces.{sign_at}
+use Rattle.ax_symbols.specs.Symbols.{symbol_of, is_feed}
+use Rattle.ax_symbols.specs.Grammar.{IsLine}
 use Rattle.ax_lines.specs.Productions.{line_at, place_after, is_label}
 
 -- From the first place to the second, each line is a production in its place, and states this.
@@ -30,6 +31,11 @@ AreLines ls xs = InPlace place.Outside ls xs place.Outside
 -- the lines of a text that has these tokens
 abbrev pub lines_of : List ℕ → List Token → List (List Symbol)
 lines_of text tokens = slice_split is_feed (map (symbol_of text) tokens)
+
+-- how many parameters a line states
+abbrev pub param_count : Line → ℕ
+param_count (line.Define f r ps) = length ps
+param_count _ = 0
 
 -- ---- faults
 
@@ -89,9 +95,13 @@ result_len l = cond (is_local (sign_at l 0) && is_equals (sign_at l 1)) 2 0
 abbrev pub opcode_index : List Symbol → ℕ
 opcode_index l = cond (is_tail_word (sign_at l (result_len l))) (result_len l + 1) (result_len l)
 
+-- a name, a colon and no more
+abbrev pub is_label_line : List Symbol → Bool
+is_label_line l = length l == 2 && is_label (sign_at l 0) (sign_at l 1)
+
 -- The line has a word that is no opcode where its opcode would stand, and is no label.
 abbrev pub has_unknown_opcode : List Symbol → Bool
-has_unknown_opcode l = not (is_label (sign_at l 0) (sign_at l 1)) && is_unknown_word (sign_at l (opcode_index l))
+has_unknown_opcode l = not (is_label_line l) && is_unknown_word (sign_at l (opcode_index l))
 
 abbrev pub is_opcode_fault : Place → List Symbol → Bool
 is_opcode_fault place.Outside l = false

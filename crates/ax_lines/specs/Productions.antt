@@ -1,18 +1,18 @@
 -- The productions: each line of a module's text, its form beside it.
 use Rattle.std.specs.Prelude.{ℕ, Bool, true, false, cond, not, ◌||◌, ◌&&◌, ◌==◌, pos, List, [], ◌∷◌, length, Option, Some, None}
 use Rattle.std.specs.List.{list_all}
-use Rattle.ax_ir.specs.declared.types.Ty.{Ty}
-use Rattle.ax_ir.specs.declared.types.Ty.TheVariants as ty
-use Rattle.ax_lines.specs.declared.symbol.Word.{Word}
-use Rattle.ax_lines.specs.declared.symbol.Word.TheVariants as word
-use Rattle.ax_lines.specs.declared.symbol.Punctuation.{Punctuation}
-use Rattle.ax_lines.specs.declared.symbol.Punctuation.TheVariants as mark
-use Rattle.ax_lines.specs.declared.symbol.Sign.{Sign}
-use Rattle.ax_lines.specs.declared.symbol.Sign.TheVariants as sign
-use Rattle.ax_lines.specs.declared.symbol.Span.{Span}
-use Rattle.ax_lines.specs.declared.pass.Pass.TheVariants as pass
-use Rattle.ax_lines.specs.declared.statement.Value.{Value}
-use Rattle.ax_lines.specs.declared.statement.Value.TheVariants as value
+use Rattle.ax_module.specs.declared.types.Ty.{Ty}
+use Rattle.ax_module.specs.declared.types.Ty.TheVariants as ty
+use Rattle.ax_symbols.specs.declared.vocabulary.Word.{Word}
+use Rattle.ax_symbols.specs.declared.vocabulary.Word.TheVariants as word
+use Rattle.ax_symbols.specs.declared.symbol.Punctuation.{Punctuation}
+use Rattle.ax_symbols.specs.declared.symbol.Punctuation.TheVariants as mark
+use Rattle.ax_symbols.specs.declared.symbol.Sign.{Sign}
+use Rattle.ax_symbols.specs.declared.symbol.Sign.TheVariants as sign
+use Rattle.ax_symbols.specs.declared.symbol.Span.{Span}
+use Rattle.ax_symbols.specs.declared.pass.Pass.TheVariants as pass
+use Rattle.ax_symbols.specs.declared.values.Value.{Value}
+use Rattle.ax_symbols.specs.declared.values.Value.TheVariants as value
 use Rattle.ax_lines.specs.declared.statement.Path.{Path}
 use Rattle.ax_lines.specs.declared.statement.Pointer.{Pointer}
 use Rattle.ax_lines.specs.declared.statement.Pointer.TheVariants as pointer
@@ -24,8 +24,8 @@ use Rattle.ax_lines.specs.declared.statement.Line.{Line}
 use Rattle.ax_lines.specs.declared.statement.Line.TheVariants as line
 use Rattle.ax_lines.specs.declared.statement.Place.{Place}
 use Rattle.ax_lines.specs.declared.statement.Place.TheVariants as place
-use Rattle.ax_lines.specs.Pieces.{count_of, local_of, global_of, callee_of, base_of, label_of, const_of, value_of, order_of, pred_of, binary_of, cast_of, rmw_of, part_of, is_label_sign, is_colon}
-use Rattle.ax_lines.specs.Grammar.{Grammar, gives, signs, one, passed, typed, when, option, by, list, tail, ends, whole, none, ◌>>=◌, ◌>>◌}
+use Rattle.ax_symbols.specs.Pieces.{count_of, local_of, global_of, callee_of, base_of, label_of, const_of, value_of, order_of, pred_of, binary_of, cast_of, rmw_of, part_of, is_label_sign, is_colon}
+use Rattle.ax_symbols.specs.Grammar.{Grammar, gives, signs, one, passed, typed, when, option, by, list, tail, ends, whole, none, ◌>>=◌, ◌>>◌}
 
 abbrev pub w : Word → Sign
 w x = sign.Word x

@@ -1,8 +1,8 @@
 -- The line of an instruction that was read.
 use Rattle.std.specs.Prelude.{◌≡◌, List, Option, Some, None, Result, Ok, Err}
 use Rattle.std.specs.Borrow.{Bor}
-use Rattle.ax_lines.specs.declared.symbol.Symbol.{Symbol}
-use Rattle.ax_lines.specs.declared.symbol.Span.{Span}
+use Rattle.ax_symbols.specs.declared.symbol.Symbol.{Symbol}
+use Rattle.ax_symbols.specs.declared.symbol.Span.{Span}
 use Rattle.ax_lines.specs.declared.listing.Stop.{Stop}
 use Rattle.ax_lines.specs.declared.listing.Stop.TheVariants.{Bad}
 use Rattle.ax_lines.specs.declared.statement.Statement.{Statement}

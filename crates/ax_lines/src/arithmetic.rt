@@ -1,17 +1,16 @@
 //! Instructions on numbers.
 
 ghost use Rattle.std.specs.Prelude.{◌≡◌};
-ghost use Rattle.ax_lines.specs.Pieces.{Gives};
-ghost use Rattle.ax_lines.specs.Grammar.{reads};
+ghost use Rattle.ax_symbols.specs.Pieces.{Gives};
+ghost use Rattle.ax_symbols.specs.Grammar.{reads};
 ghost use Rattle.ax_lines.specs.Productions.{binary, comparison, selection, conversion, alloca, getelementptr, extraction, count_or};
 
 use crate::operand::{alignment, elements, path, typed_value};
-use crate::pass::{Pass, pass_over};
-use crate::piece::{part, strip, value};
 use crate::statement::Statement;
-use crate::symbol::{Punctuation, Sign, Symbol, Word};
-use crate::types::type_at;
-use crate::words::{binary_operation, cast, condition};
+use ax_symbols::{
+    Pass, Punctuation, Sign, Symbol, Word, binary_operation, cast, condition, part, pass_over,
+    strip, type_at, value,
+};
 
 const COMMA: [Sign; 1] = [Sign::Mark(Punctuation::Comma)];
 

@@ -2,9 +2,9 @@
 
 ghost use Rattle.std.specs.Prelude.{◌≡◌, Some};
 ghost use Rattle.ax_lines.specs.Stops.{ReadsAs};
-ghost use Rattle.ax_lines.specs.Grammar.{reads, by};
+ghost use Rattle.ax_symbols.specs.Grammar.{reads, by};
 ghost use Rattle.ax_lines.specs.Productions.{states, load_line, store_line, leave_line, return_line, phi_line, valued, unnamed, result_name, named, in_block, blank};
-ghost use Rattle.ax_lines.specs.Pieces.{Gives};
+ghost use Rattle.ax_symbols.specs.Pieces.{Gives};
 ghost use Rattle.ax_lines.specs.Stated.{Stated};
 
 use crate::arithmetic::{
@@ -16,9 +16,8 @@ use crate::listing::Stop;
 use crate::memory::{
     atomic_load, atomic_store, exchange, fence, modification, plain_load, plain_store,
 };
-use crate::piece::{local, sign_at, strip};
 use crate::statement::{Line, Statement};
-use crate::symbol::{Punctuation, Sign, Span, Symbol, Word};
+use ax_symbols::{Punctuation, Sign, Span, Symbol, Word, local, sign_at, strip};
 use std::alloc::Global;
 
 /// The line of an instruction.

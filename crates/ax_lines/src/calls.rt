@@ -2,19 +2,18 @@
 
 ghost use Rattle.std.specs.Prelude.{◌≡◌};
 ghost use Rattle.ax_lines.specs.Stops.{ReadsAs};
-ghost use Rattle.ax_lines.specs.Grammar.{reads};
+ghost use Rattle.ax_symbols.specs.Grammar.{reads};
 ghost use Rattle.ax_lines.specs.Productions.{phi, items_in, call_argument, may_have, call_states, call};
 
 use crate::items::{call_arguments, incomings};
 use crate::listing::Stop;
 use crate::operand::{maybe, result_type};
-use crate::pass::{Pass, pass_over, tail};
-use crate::piece::{callee, sign_at, strip};
 use crate::statement::{Argument, Line, Statement};
-use crate::symbol::{Punctuation, Sign, Span, Symbol, Word};
-use crate::types::type_at;
-use ax_ir::Ty;
-use ax_ops::Items;
+use ax_module::Ty;
+use ax_symbols::{
+    Pass, Punctuation, Sign, Span, Symbol, Word, callee, pass_over, sign_at, strip, tail, type_at,
+};
+use ax_words::Items;
 use std::alloc::Global;
 
 /// `phi TYPE [ V, %b ], ..`.

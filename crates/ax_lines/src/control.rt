@@ -1,15 +1,13 @@
 //! Instructions that leave a block.
 
 ghost use Rattle.std.specs.Prelude.{◌≡◌};
-ghost use Rattle.ax_lines.specs.Pieces.{Gives};
-ghost use Rattle.ax_lines.specs.Grammar.{reads};
+ghost use Rattle.ax_symbols.specs.Pieces.{Gives};
+ghost use Rattle.ax_symbols.specs.Grammar.{reads};
 ghost use Rattle.ax_lines.specs.Productions.{jump, branch, return_void, return_value, unreachable_line};
 
 use crate::operand::typed_value;
-use crate::pass::tail;
-use crate::piece::{local, strip, value};
 use crate::statement::Statement;
-use crate::symbol::{Punctuation, Sign, Symbol, Word};
+use ax_symbols::{Punctuation, Sign, Symbol, Word, local, strip, tail, value};
 
 /// `br label %b TAIL`.
 #[tactic(auto, unfolding(crate::specs::Productions::jump))]

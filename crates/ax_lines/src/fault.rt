@@ -1,23 +1,28 @@
 //! Why lines are no module, and which fault a bad line has.
 
 ghost use Rattle.std.specs.Prelude.{◌≡◌, ◌≤◌};
-ghost use Rattle.ax_lines.specs.Lines.{is_opcode, is_unknown_word, is_local, is_equals, is_tail_word, result_len, opcode_index, has_unknown_opcode, is_opcode_fault};
+ghost use Rattle.ax_lines.specs.Lines.{is_opcode, is_unknown_word, is_local, is_equals, is_tail_word, result_len, opcode_index, is_label_line, has_unknown_opcode, is_opcode_fault};
 ghost use Rattle.ax_lines.specs.Faults.{fault_of};
 ghost use Rattle.ax_lines.specs.declared.fault.LineFault.TheVariants.{Memory};
 
 use crate::listing::Stop;
-use crate::piece::sign_at;
 use crate::place::is_label;
 use crate::statement::Place;
-use crate::symbol::{Punctuation, Sign, Symbol, Word};
+use ax_symbols::{Punctuation, Sign, Symbol, Word, sign_at};
 use std::alloc::{AllocError, AllocFailed};
+use thiserror::Error;
 
 /// Why the lines of a text are no module; lines are counted from 1.
-#[derive(Clone, Copy, Debug, PartialEq, Eq, Drop)]
+#[derive(Clone, Copy, Debug, Error)]
 pub enum LineFault {
+    /// The line is no production in its place, or the last of a text that ends in a function.
+    #[error("line {line} is none of a module")]
     Syntax { line: usize },
     /// A line in a function has a word that is no opcode where its opcode would stand.
+    #[error("line {line} has an unknown opcode")]
     Opcode { line: usize },
+    /// Memory ran out.
+    #[error("memory ran out")]
     Memory,
 }
 
@@ -108,11 +113,17 @@ fn opcode_index(line: &[Symbol]) -> usize
     }
 }
 
+/// Whether a line is `name:` and no more.
+fn is_label_line(line: &[Symbol]) -> bool
+    ensures { result ≡ is_label_line line.now }
+{
+    line.len() == 2 && is_label(sign_at(line, 0), sign_at(line, 1))
+}
+
 fn has_unknown_opcode(line: &[Symbol]) -> bool
     ensures { result ≡ has_unknown_opcode line.now }
 {
-    !is_label(sign_at(line, 0), sign_at(line, 1))
-        && is_unknown_word(sign_at(line, opcode_index(line)))
+    !is_label_line(line) && is_unknown_word(sign_at(line, opcode_index(line)))
 }
 
 fn is_opcode_fault(place: Place, line: &[Symbol]) -> bool

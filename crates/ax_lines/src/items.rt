@@ -1,19 +1,19 @@
 //! Items parted by commas.
 
 ghost use Rattle.std.specs.Prelude.{◌≡◌};
-ghost use Rattle.ax_lines.specs.Pieces.{Gives};
+ghost use Rattle.ax_symbols.specs.Pieces.{Gives};
 ghost use Rattle.ax_lines.specs.Stops.{ReadsAs};
-ghost use Rattle.ax_lines.specs.Grammar.{reads, list};
+ghost use Rattle.ax_symbols.specs.Grammar.{reads, list};
 ghost use Rattle.ax_lines.specs.Productions.{incoming, parameter, element, same_type, call_argument, pointer_argument, value_argument, begins_pointer};
 
 use crate::listing::Stop;
 use crate::operand::pointer_behind;
-use crate::pass::{Pass, pass_over};
-use crate::piece::{constant, local, sign_at, strip, value};
-use crate::statement::{Argument, Value};
-use crate::symbol::{Punctuation, Sign, Span, Symbol, Word};
-use crate::types::type_at;
-use ax_ir::Ty;
+use crate::statement::Argument;
+use ax_module::Ty;
+use ax_symbols::{
+    Pass, Punctuation, Sign, Span, Symbol, Value, Word, constant, local, pass_over, sign_at, strip,
+    type_at, value,
+};
 use std::alloc::Global;
 
 const COMMA: [Sign; 1] = [Sign::Mark(Punctuation::Comma)];
@@ -121,7 +121,7 @@ fn call_argument(line: &[Symbol]) -> Option<(Argument, &[Symbol])>
 }
 
 /// The values of a phi, each with its block.
-#[tactic(auto, using(crate::proofs::Commas::list_starts, crate::proofs::Commas::list_fails))]
+#[tactic(auto, using(ax_symbols::proofs::Commas::list_starts, ax_symbols::proofs::Commas::list_fails))]
 pub fn incomings<'a>(
     alloc: Global,
     line: &'a [Symbol],
@@ -143,7 +143,7 @@ pub fn incomings<'a>(
 }
 
 /// Parameters, at least one.
-#[tactic(auto, using(crate::proofs::Commas::list_starts, crate::proofs::Commas::list_fails))]
+#[tactic(auto, using(ax_symbols::proofs::Commas::list_starts, ax_symbols::proofs::Commas::list_fails))]
 pub fn parameters<'a>(
     alloc: Global,
     line: &'a [Symbol],
@@ -165,7 +165,7 @@ pub fn parameters<'a>(
 }
 
 /// The first numbers of an array of this type.
-#[tactic(auto, using(crate::proofs::Commas::list_starts, crate::proofs::Commas::list_fails))]
+#[tactic(auto, using(ax_symbols::proofs::Commas::list_starts, ax_symbols::proofs::Commas::list_fails))]
 pub fn first_numbers<'a>(
     alloc: Global,
     ty: Ty,
@@ -188,7 +188,7 @@ pub fn first_numbers<'a>(
 }
 
 /// Arguments of a call, at least one.
-#[tactic(auto, using(crate::proofs::Commas::list_starts, crate::proofs::Commas::list_fails))]
+#[tactic(auto, using(ax_symbols::proofs::Commas::list_starts, ax_symbols::proofs::Commas::list_fails))]
 pub fn call_arguments<'a>(
     alloc: Global,
     line: &'a [Symbol],

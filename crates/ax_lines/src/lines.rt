@@ -1,19 +1,19 @@
 //! Lines from symbols.
 
-ghost use Rattle.std.specs.Prelude.{◌≡◌, ◌+◌, ◌<◌, ◌≤◌, List, [], ◌∷◌, length, MatchOption, MatchResult, MatchBool, IfOk};
+ghost use Rattle.std.specs.Prelude.{◌≡◌, ◌+◌, ◌<◌, ◌≤◌, List, [], ◌∷◌, length, MatchOption, MatchResult, MatchBool, IfOk, All};
 ghost use Rattle.std.specs.List.{slice_split, position_or_len};
 ghost use Rattle.ax_lex.specs.declared.token.Token.{Token};
-ghost use Rattle.ax_lines.specs.Symbols.{is_feed};
-ghost use Rattle.ax_lines.specs.Lines.{AreLines, lines_of};
-ghost use Rattle.ax_lines.specs.Faults.{IsLineFault, LineRead, FaultWithin};
+ghost use Rattle.ax_symbols.specs.Symbols.{is_feed};
+ghost use Rattle.ax_lines.specs.Lines.{AreLines, lines_of, param_count};
+ghost use Rattle.ax_lines.specs.Faults.{IsLineFault, HaveFault, IsOrMemory, LineRead, FaultWithin};
 ghost use Rattle.ax_lines.specs.declared.statement.Line.{Line};
+ghost use Rattle.ax_lines.specs.declared.fault.LineFault.{LineFault};
 
 use crate::fault::{LineFault, fault_of};
 use crate::place::{line_at, place_after};
 use crate::statement::{Line, Place};
-use crate::symbol::Symbol;
-use crate::symbols::{is_feed, symbols};
 use ax_lex::Token;
+use ax_symbols::{Symbol, is_feed, symbols_of};
 use std::alloc::Global;
 
 /// How many symbols stand before the first line feed.
@@ -90,7 +90,7 @@ fn lines_once(alloc: Global, text: &[u8], tokens: &[Token]) -> Result<Vec<Line>,
     ensures all { IfOk result (λ v. AreLines (lines_of text.now tokens.now) v.items) }
     ensures fault { MatchResult result (λ _. Unit {0}) (λ e. IsLineFault (lines_of text.now tokens.now) e) }
 {
-    let symbols = symbols(alloc, text, tokens)?;
+    let symbols = symbols_of(alloc, text, tokens)?;
     lines_in(alloc, &symbols)
 }
 
@@ -100,8 +100,8 @@ fn lines_once(alloc: Global, text: &[u8], tokens: &[Token]) -> Result<Vec<Line>,
 /// # Errors
 ///
 /// The first line that is no production in its place, or the last line where the text ends inside
-/// a function; or want of memory.
-#[tactic(auto, using(crate::proofs::Places::same_all, crate::proofs::Places::no_line_fault, crate::proofs::Places::stated_few, crate::proofs::Places::fault_few))]
+/// a function, which is the one fault of such a text; or want of memory.
+#[tactic(auto, using(crate::proofs::Places::same_all, crate::proofs::Places::no_line_fault, crate::proofs::Places::stated_few, crate::proofs::Places::fault_few, crate::proofs::Places::lines_faultless, crate::proofs::Places::one_fault, crate::proofs::Parameters::params_few))]
 pub fn read_lines(alloc: Global, text: &[u8], tokens: &[Token]) -> Result<Vec<Line>, LineFault>
     // Each line is a production in its place, and states this.
     ensures all { IfOk result (λ v. AreLines (lines_of text.now tokens.now) v.items) }
@@ -110,6 +110,10 @@ pub fn read_lines(alloc: Global, text: &[u8], tokens: &[Token]) -> Result<Vec<Li
     // What lines state is answered, unless memory runs out.
     ensures only { (stated : List Line) → AreLines (lines_of text.now tokens.now) stated
         → MatchResult result (λ v. v.items ≡ stated) (λ e. e ≡ LineFault.Memory) }
+    // The fault that the lines have is answered, unless memory runs out.
+    ensures faulty { (fault : LineFault) → HaveFault (lines_of text.now tokens.now) fault → MatchResult result (λ _. ⊥) (IsOrMemory fault) }
+    // No line states more parameters than there are tokens.
+    ensures parameters { IfOk result (λ v. All (λ l. param_count l ≤ length tokens.now) v.items) }
     // Lines are at most one more than tokens.
     ensures few { MatchResult result (λ v. length v.items ≤ length tokens.now + 1) (λ e. FaultWithin (length tokens.now + 1) e) }
 {

@@ -1,17 +1,13 @@
 //! Instructions on memory.
 
 ghost use Rattle.std.specs.Prelude.{◌≡◌};
-ghost use Rattle.ax_lines.specs.Pieces.{Gives};
-ghost use Rattle.ax_lines.specs.Grammar.{reads};
+ghost use Rattle.ax_symbols.specs.Pieces.{Gives};
+ghost use Rattle.ax_symbols.specs.Grammar.{reads};
 ghost use Rattle.ax_lines.specs.Productions.{atomic_load, plain_load, exchange, modification, atomic_store, plain_store, fence};
 
 use crate::operand::{alignment, maybe, pointer_operand, stated_alignment, typed_value};
-use crate::pass::tail;
-use crate::piece::strip;
 use crate::statement::Statement;
-use crate::symbol::{Punctuation, Sign, Symbol, Word};
-use crate::types::type_at;
-use crate::words::{order, rmw_operation};
+use ax_symbols::{Punctuation, Sign, Symbol, Word, order, rmw_operation, strip, tail, type_at};
 
 const COMMA: [Sign; 1] = [Sign::Mark(Punctuation::Comma)];
 

@@ -1,16 +1,15 @@
 //! Operands: values with their types, pointers, alignments.
 
 ghost use Rattle.std.specs.Prelude.{◌≡◌, Some};
-ghost use Rattle.ax_lines.specs.Pieces.{Gives};
-ghost use Rattle.ax_lines.specs.Grammar.{reads};
+ghost use Rattle.ax_symbols.specs.Pieces.{Gives};
+ghost use Rattle.ax_symbols.specs.Grammar.{reads};
 ghost use Rattle.ax_lines.specs.Productions.{maybe, alignment, stated_alignment, typed_value, result_type, elements, first_index, path, pointer_behind, pointer_operand, count_or};
 
-use crate::pass::{Pass, pass_over};
-use crate::piece::{base, count, strip, value};
-use crate::statement::{Path, Pointer, Value};
-use crate::symbol::{Punctuation, Sign, Symbol, Word};
-use crate::types::type_at;
-use ax_ir::Ty;
+use crate::statement::{Path, Pointer};
+use ax_module::Ty;
+use ax_symbols::{
+    Pass, Punctuation, Sign, Symbol, Value, Word, base, count, pass_over, strip, type_at, value,
+};
 
 const COMMA: [Sign; 1] = [Sign::Mark(Punctuation::Comma)];
 

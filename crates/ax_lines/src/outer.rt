@@ -3,18 +3,18 @@
 ghost use Rattle.std.specs.Prelude.{◌≡◌, ◌∷◌, [], IfOk};
 ghost use Rattle.std.specs.List.{list_all};
 ghost use Rattle.ax_lines.specs.Stops.{ReadsAs};
-ghost use Rattle.ax_lines.specs.Grammar.{reads};
+ghost use Rattle.ax_symbols.specs.Grammar.{reads};
 ghost use Rattle.ax_lines.specs.Productions.{initial, is_zero, kept, global_line, define_line, items_in, parameter, count_or};
 
 use crate::items::{first_numbers, parameters};
 use crate::listing::Stop;
 use crate::operand::{alignment, elements, result_type};
-use crate::pass::{Pass, pass_over};
-use crate::piece::{constant, global, sign_at, strip};
-use crate::statement::{Line, Value};
-use crate::symbol::{Punctuation, Sign, Span, Symbol, Word};
-use ax_ir::Ty;
-use ax_ops::Items;
+use crate::statement::Line;
+use ax_module::Ty;
+use ax_symbols::{
+    Pass, Punctuation, Sign, Span, Symbol, Value, Word, constant, global, pass_over, sign_at, strip,
+};
+use ax_words::Items;
 use std::alloc::{AllocError, Global};
 
 /// A list of one number.
@@ -61,12 +61,7 @@ fn is_zero(value: &Value) -> bool
 fn all_zero(values: &[Value]) -> bool
     ensures { result ≡ list_all is_zero values.now }
 {
-    for value in values {
-        if !is_zero(value) {
-            return false;
-        }
-    }
-    true
+    values.iter().all(is_zero)
 }
 
 /// The numbers, or none where all are zero.

@@ -2,16 +2,15 @@
 
 ghost use Rattle.std.specs.Prelude.{◌≡◌};
 ghost use Rattle.ax_lines.specs.Stops.{ReadsAs};
-ghost use Rattle.ax_lines.specs.Grammar.{reads, all_of};
+ghost use Rattle.ax_symbols.specs.Grammar.{reads, all_of};
 ghost use Rattle.ax_lines.specs.Productions.{passed_line, label_line, close_line, outside, is_label, at_start, named_call, between, behind_block, line_at, is_terminator, is_phi, place_behind, place_after};
 
 use crate::block::{blank, in_block, result_name};
 use crate::calls::call;
 use crate::listing::Stop;
 use crate::outer::{define_line, global_line};
-use crate::piece::{is_label_sign, label, sign_at, strip};
 use crate::statement::{Line, Place, Statement};
-use crate::symbol::{Punctuation, Sign, Symbol, Word};
+use ax_symbols::{Punctuation, Sign, Symbol, Word, is_label_sign, label, sign_at, strip};
 use std::alloc::Global;
 
 /// A line that is passed over whole.

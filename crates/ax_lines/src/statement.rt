@@ -1,24 +1,8 @@
 //! What a line states: its instruction or declaration, with names in place of numbers.
 
-use crate::symbol::Span;
-use ax_ir::{BinOp, Cast, Pred, Ty};
-use ax_ops::{Items, Order, RmwOp};
-
-/// A number as it is written, or a local.
-#[derive(Clone, Copy)]
-pub enum Value {
-    Const(i128),
-    /// A number from 2^127 on.
-    Wide(u128),
-    Local(Span),
-}
-
-/// What a pointer begins with.
-#[derive(Clone, Copy)]
-pub enum Base {
-    Global(Span),
-    Local(Span),
-}
+use ax_module::{BinOp, Cast, Pred, Ty};
+use ax_symbols::{Base, Span, Value};
+use ax_words::{Items, Order, RmwOp};
 
 /// A way from a base to an element: the element type, the array's length (0 where there is no
 /// array), the base, the type of the index and the index.
@@ -45,7 +29,7 @@ pub enum Argument {
     Value(Ty, Value),
 }
 
-/// An instruction as its line states it. The variants are those of `ax_ir::Inst`.
+/// An instruction as its line states it. The variants are those of `ax_module::Inst`.
 #[derive(Drop)]
 pub enum Statement {
     Bin(BinOp, Ty, Value, Value),

@@ -1,38 +1,42 @@
 -- The image of a program lowers it.
-use Rattle.std.proofs.Common.{◌≡◌, ℕ, zero, suc, ◌+◌, ◌-◌, ◌*◌, ◌/◌, ◌%◌, ◌^◌, ◌<◌, ◌≤◌, Bool, true, false, List, [], ◌∷◌, ◌++◌, length, map, Option, Some, None, refl, sym, ap, ◌∙◌, subst, arith, inl, inr, ⊎_elim, add-one}
+use Rattle.std.proofs.Common.{◌≡◌, ℕ, zero, suc, ◌+◌, ◌-◌, ◌*◌, ◌/◌, ◌%◌, ◌^◌, ◌<◌, ◌≤◌, Bool, true, false, List, [], ◌∷◌, length, map, Option, Some, None, refl, sym, ap, ◌∙◌, subst, arith, add-one}
 use Rattle.std.specs.Prelude.{if◌then◌else◌, ◌&&◌, nat_eq, nat_lt, nat_le, slice_get, slice_index_or}
 use Rattle.std.specs.Option.{option_map}
 use Rattle.std.proofs.lemmas.Bool.{false≢true, true≢false}
 use Rattle.std.proofs.lemmas.Bool.Decides.{nat_tests}
 use Rattle.std.proofs.lemmas.Option.{same_Some}
-use Rattle.ax_ops.specs.declared.source.SourceEvent.{SourceEvent}
-use Rattle.ax_ops.specs.declared.source.SourceStatus.TheVariants.{Running as Runs, Ended as Ends}
+use Rattle.ax_words.specs.declared.source.SourceEvent.{SourceEvent}
+use Rattle.ax_words.specs.declared.source.SourceStatus.TheVariants.{Running as Runs}
 use Rattle.ax_store.specs.Bytes.{number_at, all_inside, byte_of}
-use Rattle.ax_store.specs.Regions.{in_regions, frame_end}
-use Rattle.ax_store.specs.Storage.{Storage}
+use Rattle.ax_store.specs.Regions.{in_regions}
 use Rattle.ax_store.proofs.Numbers.{number_same, spelled}
 use Rattle.ax_store.proofs.Regions.{globals_access, frame_access}
 use Rattle.ax_isa.specs.declared.cpu.Status.TheVariants.{Running, Ended}
-use Rattle.ax_isa.specs.declared.events.Event.{Event}
+use Rattle.ax_words.specs.declared.event.Event.{Event}
 use Rattle.ax_isa.specs.declared.images.Image.{Image}
-use Rattle.ax_isa.specs.Steps.{Noted}
-use Rattle.ax_isa.specs.Run.{Machine, tag_at, run, explain, idle_run, frame_base, start_processor, start_noted}
-use Rattle.ax_isa.specs.Contract.{Whole, machine_status, meant_run, Follows}
+use Rattle.ax_isa.specs.Tells.{given_of}
+use Rattle.ax_isa.specs.Run.{Machine, setting_of, tag_at, run, idle_run, start_processor}
+use Rattle.ax_tags.specs.declared.tags.Role.TheVariants.{None as Outside}
+use Rattle.ax_follow.specs.Contract.{Whole, machine_status, meant_run, Follows, Lawful}
 use Rattle.ax_rv.specs.declared.instructions.RvInstr.{RvInstr}
 use Rattle.ax_rv.specs.Instructions.{rv_kind}
 use Rattle.ax_first.specs.declared.first.First.{First}
 use Rattle.ax_first.specs.declared.first.FirstInst.{FirstInst}
 use Rattle.ax_first.specs.WellFormed.{IsFirst, IsWithinLimits, AreEntries}
-use Rattle.ax_first.specs.FirstSource.{SourceProcessor, SourceState, source_run, source_start, first_processor, first_numbers}
+use Rattle.ax_first.specs.FirstSource.{SourceProcessor, source_run, source_start, first_processor, first_numbers}
 use Rattle.ax_lower.specs.Layout.{address_of, end_of, initial_byte, objects_of}
+use Rattle.ax_lower.specs.Settings.{no_store, rv_setting}
+use Rattle.ax_lower.proofs.Straight.{reading_of}
 use Rattle.ax_lower.specs.FirstAgree.{FirstAgree}
 use Rattle.ax_lower.specs.FirstLowers.{start_of, run_of, explained_by, FirstLowers, FirstNeverIdles}
-use Rattle.ax_lower.specs.Code.{program_code, entries_from, frames_of, IsImageOf}
-use Rattle.ax_lower.proofs.Runs.{Begins, Agreed, run_follows}
+use Rattle.ax_lower.specs.Code.{program_code, IsImageOf}
+use Rattle.ax_agree.specs.Library.{library_of}
+use Rattle.ax_follow.specs.RunTheorem.{Begins, Agreed}
+use Rattle.ax_follow.proofs.Runs.{run_follows}
 use Rattle.ax_lower.proofs.Meaning.{Numbers, meaning_of, numbers_in, size_or, slot, Matched}
 use Rattle.ax_lower.proofs.Parts.{HasAt}
 use Rattle.ax_lower.proofs.Pieces.{Laid, follows_first}
-use Rattle.ax_lower.proofs.Places.{begins_from, stands, has_all, piece_small, program_small, begins_within, entry_begins, frame_size}
+use Rattle.ax_lower.proofs.Places.{begins_from, stands, has_all, program_small, begins_within, entry_begins, frame_size}
 use Rattle.ax_lower.proofs.Reached.{whole_of, run_meant, run_sound, sound_fits, start_sound, get_there}
 
 get_mapped : {A B : Type 0} (f : A → B) (xs : List A) (i : ℕ) → slice_get (map f xs) i ≡ option_map f (slice_get xs i)
@@ -112,8 +116,12 @@ module _ (image : Image RvInstr) (program : First) (first : IsFirst program) (li
       let z = limits.functions in
       record { has = s.0; end = ap (λ n. begins_from 1 program.functions f n) (add-one k) ∙ s.1; room = omega (arith, x, y, z) }
 
-  code_follows : Follows (meaning_of program places) 8 rv_kind image.code (tag_at image.tags)
-  code_follows = follows_first program places image.code (tag_at image.tags) limits.globals limits.instructions laid
+  code_follows : Follows (meaning_of program places) (reading_of (tag_at image.tags) 8) (rv_setting image)
+  code_follows = subst (λ rs. Follows (meaning_of program places) (reading_of (tag_at image.tags) 8) (setting_of rv_kind image.code image.tags (library_of rv_kind rs))) (sym im.routines) (follows_first program places image.code (tag_at image.tags) limits.globals limits.instructions laid)
+
+  -- without buffers nothing goes to memory later
+  lawful : Lawful (meaning_of program places) (reading_of (tag_at image.tags) 8) (rv_setting image)
+  lawful = record { dropped = λ p n w h. h; drains = λ on. absurd (false≢true on); hides = λ on. absurd (false≢true on) }
 
   module _ (entries : List ℕ) (are : AreEntries program entries) where
     abbrev begun : Machine
@@ -128,6 +136,10 @@ module _ (image : Image RvInstr) (program : First) (first : IsFirst program) (li
     status_is : (p : ℕ) (o : Option ℕ) → (processor_at p o).status ≡ machine_status (first_processor o).status
     status_is p None = refl
     status_is p (Some f) = refl
+
+    role_is : (p : ℕ) (o : Option ℕ) → (processor_at p o).role ≡ Outside
+    role_is p None = refl
+    role_is p (Some f) = refl
 
     place_is : (p : ℕ) (o : Option ℕ) → slice_get entries p ≡ o → (processor_at p o).status ≡ Running → (processor_at p o).place ≡ places (first_processor o).function (first_processor o).place
     place_is p None e run = absurd (let z : Ended ≡ Running = run in cc)
@@ -166,13 +178,13 @@ module _ (image : Image RvInstr) (program : First) (first : IsFirst program) (li
           shared = global_there;
         }
 
-    begins_run : Begins rv_kind image.code (tag_at image.tags) (meaning_of program places) 8 begun (whole_of (source_start program entries))
+    begins_run : Begins (rv_setting image) (meaning_of program places) (reading_of (tag_at image.tags) 8) begun (whole_of (source_start program entries))
     begins_run =
         record {
           status = λ p. ap (λ c. c.status) (processor_is p) ∙ status_is p (slice_get entries p);
           place = λ p run. ap (λ c. c.place) (processor_is p) ∙ place_is p (slice_get entries p) refl (sym (ap (λ c. c.status) (processor_is p)) ∙ run);
-          matches = λ p run. subst (λ c. Matched program p c begun.noted.storage (first_processor (slice_get entries p))) (sym (processor_is p)) (matches_at p (slice_get entries p) refl (sym (ap (λ c. c.status) (processor_is p)) ∙ run));
-          world = first_world program first limits;
+          matches = λ p run. (subst (λ c. Matched program p c begun.noted.storage (first_processor (slice_get entries p))) (sym (processor_is p)) (matches_at p (slice_get entries p) refl (sym (ap (λ c. c.status) (processor_is p)) ∙ run)), ap (λ c. c.role) (processor_is p) ∙ role_is p (slice_get entries p));
+          sees = first_world program first limits;
           waiting = λ p. refl;
           outputs = refl;
         }
@@ -184,8 +196,8 @@ module _ (image : Image RvInstr) (program : First) (first : IsFirst program) (li
         let is = run_meant program places es (source_start program entries) in
         subst (λ (w : Whole SourceProcessor Numbers). (w.processors p).status ≡ Runs → (meaning_of program places).fits (w.processors p) w.world) (sym is) (λ run. sound_fits program first s p (run_sound program first es (source_start program entries) (start_sound program first entries are)) run)
 
-    agreed : (events : List Event) → Agreed rv_kind image.code (tag_at image.tags) (meaning_of program places) 8 (run_of image program entries events) (meant_run (meaning_of program places) (explained_by image program entries events) (whole_of (source_start program entries))) (idle_run rv_kind image.code (tag_at image.tags) events begun (λ p. 0))
-    agreed events = run_follows rv_kind image.code (tag_at image.tags) (meaning_of program places) 8 code_follows (λ p st. refl) (whole_of (source_start program entries)) begun begins_run reached_fits events
+    agreed : (events : List Event) → Agreed (rv_setting image) (meaning_of program places) (reading_of (tag_at image.tags) 8) (run_of image program entries events) (meant_run (meaning_of program places) (explained_by image program entries events) (whole_of (source_start program entries))) (idle_run (rv_setting image) given_of (tag_at image.tags) no_store events begun (λ p. 0))
+    agreed events = run_follows (rv_setting image) (meaning_of program places) (reading_of (tag_at image.tags) 8) code_follows lawful (whole_of (source_start program entries)) begun begins_run reached_fits events
 
     pub agrees : (events : List Event) → FirstAgree (objects_of program) (run_of image program entries events) (source_run program (explained_by image program entries events) (source_start program entries))
     agrees events =
@@ -196,12 +208,12 @@ module _ (image : Image RvInstr) (program : First) (first : IsFirst program) (li
         record {
           outputs = a.outputs ∙ ap (λ (w : Whole SourceProcessor Numbers). w.outputs) is;
           statuses = λ p. a.status p ∙ ap (λ (w : Whole SourceProcessor Numbers). machine_status (w.processors p).status) is;
-          native = λ g i has nat. ap (λ (t : Bool). if t then number_at mem (address_of g) 8 else 0) (sym has) ∙ ap (λ (w : Numbers). w g i) a.world ∙ ap (λ (w : Whole SourceProcessor Numbers). w.world g i) is;
+          native = λ g i has nat. ap (λ (t : Bool). if t then number_at mem (address_of g) 8 else 0) (sym has) ∙ ap (λ (w : Numbers). w g i) a.sees ∙ ap (λ (w : Whole SourceProcessor Numbers). w.world g i) is;
           locked = λ g i has nat word. absurd (true≢false nat);
-          pending = a.waiting;
+          pending = a.flat refl;
         }
 
-    pub never_idles : (events : List Event) (p : ℕ) → idle_run rv_kind image.code (tag_at image.tags) events begun (λ q. 0) p < 4096
+    pub never_idles : (events : List Event) (p : ℕ) → idle_run (rv_setting image) given_of (tag_at image.tags) no_store events begun (λ q. 0) p < 4096
     never_idles events p = (let h = (agreed events).few p in omega (arith, h))
 
   pub lowers : FirstLowers image program

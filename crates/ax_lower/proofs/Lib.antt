@@ -1,6 +1,3 @@
-pub mod Quiet
-pub mod Follow
-pub mod Runs
 pub mod Straight
 pub mod Meaning
 pub mod Words
@@ -11,7 +8,9 @@ pub mod Pieces
 pub mod Places
 pub mod Reached
 pub mod Agreement
+pub mod Ranges
 pub mod Soundness
 pub mod Marks
+pub mod ImageSound
 pub mod Emitted
 pub mod Whole

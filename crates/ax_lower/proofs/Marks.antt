@@ -1,30 +1,32 @@
 -- The image of a program has its rows.
-use Rattle.std.proofs.Common.{◌≡◌, ℕ, zero, suc, ◌+◌, ◌-◌, ◌*◌, ◌^◌, ◌<◌, ◌≤◌, Bool, true, false, List, [], ◌∷◌, ◌++◌, length, map, Option, Some, None, refl, sym, ap, ◌∙◌, subst, arith, length-append, append_assoc, inl, inr, ⊎_elim}
-use Rattle.std.specs.Prelude.{◌⊎◌, slice_get, slice_index_or, nat_lt, nat_eq, if◌then◌else◌, pos, option_to_list}
+use Rattle.std.proofs.Common.{◌≡◌, ℕ, zero, suc, ◌+◌, ◌-◌, Bool, true, false, List, [], ◌∷◌, ◌++◌, length, map, Option, Some, None, refl, sym, ap, ◌∙◌, subst, arith, append_assoc, inl, inr, ⊎_elim}
+use Rattle.std.specs.Prelude.{◌⊎◌, ◌≤◌, slice_get, nat_lt, if◌then◌else◌, pos, option_to_list}
 use Rattle.std.proofs.lemmas.Option.{same_Some}
-use Rattle.std.proofs.lemmas.List.{append-nil, map-append}
-use Rattle.ax_ops.specs.declared.mark.Mark.{Mark}
+use Rattle.std.proofs.lemmas.List.{append-nil, length-map}
+use Rattle.ax_words.specs.declared.mark.Mark.{Mark}
 use Rattle.ax_isa.specs.declared.images.Image.{Image}
 use Rattle.ax_isa.specs.declared.images.SiteRange.{SiteRange}
-use Rattle.ax_isa.specs.declared.tags.Tag.{Tag}
-use Rattle.ax_isa.specs.declared.tags.Tag.TheVariants.{Silent, Act}
-use Rattle.ax_isa.specs.Steps.{at_code}
-use Rattle.ax_isa.specs.Run.{tag_at}
+use Rattle.ax_tags.specs.declared.tags.Tag.{Tag}
+use Rattle.ax_tags.specs.declared.tags.Tag.TheVariants.{Silent, Act}
+use Rattle.ax_isa.specs.Run.{at_code, tag_at}
 use Rattle.ax_rv.specs.declared.instructions.RvInstr.{RvInstr}
-use Rattle.ax_rv.specs.declared.instructions.RvInstr.TheVariants.{Li, Ld, Sd, AmoAdd, Ret, Ecall}
+use Rattle.ax_rv.specs.declared.instructions.RvInstr.TheVariants.{Li, Ecall}
+use Rattle.ax_lower.specs.Doubles.{load_of, store_of, addition_of}
 use Rattle.ax_rv.specs.Skeleton.{skeleton, mark_of}
 use Rattle.ax_first.specs.declared.first.First.{First}
 use Rattle.ax_first.specs.declared.first.FirstInst.{FirstInst}
 use Rattle.ax_first.specs.declared.first.FirstInst.TheVariants.{Load, Store, Add as Plus, Out, Ret as Return}
 use Rattle.ax_first.specs.declared.first.FirstValue.{FirstValue}
 use Rattle.ax_first.specs.declared.first.FirstValue.TheVariants.{Const, Result}
-use Rattle.ax_first.specs.WellFormed.{IsFirst, IsWithinLimits, IsInst, IsLoadOrder, IsStoreOrder, IsRmwOrder}
+use Rattle.ax_first.specs.WellFormed.{IsFirst, IsInst, IsLoadOrder, IsStoreOrder, IsRmwOrder}
 use Rattle.ax_first.specs.FirstSource.{inst_in, inst_at}
 use Rattle.ax_lower.specs.Layout.{address_of}
-use Rattle.ax_lower.specs.Code.{Piece, near_load, far_load, slot_load, near_store, far_store, slot_store, operand, before_load, after_load, before_store, ending_of, piece_of, function_code, program_code, sites_in, sites_from, IsImageOf}
-use Rattle.ax_lower.specs.FirstRows.{row_of, load_row, store_row, add_row, order_of, FirstHasRows}
-use Rattle.ax_lower.specs.Rows.{is_frame_register, codes_from, range_of}
-use Rattle.ax_lower.proofs.Parts.{HasAt, has_parts}
+use Rattle.ax_lower.specs.Code.{Piece, near_load, far_load, near_store, far_store, slot_store, operand, before_load, after_load, before_store, ending_of, piece_of, function_code, program_code, sites_in, sites_from, IsImageOf}
+use Rattle.ax_lower.specs.FirstRows.{row_of, load_row, store_row, add_row, order_of, is_end, is_jump, is_ret, FirstHasRows}
+use Rattle.ax_rv.specs.Instructions.{is_frame_register}
+use Rattle.ax_agree.specs.Rows.{IsOutside, codes_from, range_of}
+use Rattle.ax_lower.proofs.Ranges.{code_place, cover, in_piece, piece_calm, program_jumps}
+use Rattle.ax_lower.proofs.Parts.{HasAt}
 use Rattle.ax_lower.proofs.Places.{place_in, begins_from, stands, has_all}
 use Rattle.ax_lower.proofs.Soundness.{piece_some}
 
@@ -54,37 +56,37 @@ bones_operand rd (Result r) = go (nat_lt r 256)
 load_bones : (k g o : ℕ) → IsLoadOrder o → bones (piece_of k (Load g o)) ≡ load_row (order_of o)
 load_bones k g o h =
     let A : Piece = (Li 5 (address_of g), Silent) ∷ before_load o in
-    let B : Piece = (Ld 6 (pos 0) 5, Act) ∷ after_load o in
+    let B : Piece = (load_of 6 (pos 0) 5, Act) ∷ after_load o in
     bones_append (A ++ B) (slot_store 6 k) ∙ ap (λ l. bones (A ++ B) ++ l) (bones_store k) ∙ append-nil (bones (A ++ B)) ∙ front h
   where
-    front : IsLoadOrder o → bones ((Li 5 (address_of g), Silent) ∷ before_load o ++ (Ld 6 (pos 0) 5, Act) ∷ after_load o) ≡ load_row (order_of o)
-    front (inl e) = subst (λ y. bones ((Li 5 (address_of g), Silent) ∷ before_load y ++ (Ld 6 (pos 0) 5, Act) ∷ after_load y) ≡ load_row (order_of y)) (sym e) refl
-    front (inr (inl e)) = subst (λ y. bones ((Li 5 (address_of g), Silent) ∷ before_load y ++ (Ld 6 (pos 0) 5, Act) ∷ after_load y) ≡ load_row (order_of y)) (sym e) refl
-    front (inr (inr e)) = subst (λ y. bones ((Li 5 (address_of g), Silent) ∷ before_load y ++ (Ld 6 (pos 0) 5, Act) ∷ after_load y) ≡ load_row (order_of y)) (sym e) refl
+    front : IsLoadOrder o → bones ((Li 5 (address_of g), Silent) ∷ before_load o ++ (load_of 6 (pos 0) 5, Act) ∷ after_load o) ≡ load_row (order_of o)
+    front (inl e) = subst (λ y. bones ((Li 5 (address_of g), Silent) ∷ before_load y ++ (load_of 6 (pos 0) 5, Act) ∷ after_load y) ≡ load_row (order_of y)) (sym e) refl
+    front (inr (inl e)) = subst (λ y. bones ((Li 5 (address_of g), Silent) ∷ before_load y ++ (load_of 6 (pos 0) 5, Act) ∷ after_load y) ≡ load_row (order_of y)) (sym e) refl
+    front (inr (inr e)) = subst (λ y. bones ((Li 5 (address_of g), Silent) ∷ before_load y ++ (load_of 6 (pos 0) 5, Act) ∷ after_load y) ≡ load_row (order_of y)) (sym e) refl
 
 store_bones : (k g o : ℕ) (v : FirstValue) → IsStoreOrder o → bones (piece_of k (Store v g o)) ≡ store_row (order_of o)
 store_bones k g o v h =
     let A : Piece = (Li 5 (address_of g), Silent) ∷ operand 6 v in
-    let C : Piece = (Sd 6 (pos 0) 5, Act) ∷ [] in
+    let C : Piece = (store_of 6 (pos 0) 5, Act) ∷ [] in
     bones_append (A ++ before_store o) C ∙ ap (λ l. l ++ bones C) (bones_append A (before_store o) ∙ ap (λ l. l ++ bones (before_store o)) (bones_operand 6 v)) ∙ back h
   where
-    back : IsStoreOrder o → bones (before_store o) ++ bones ((Sd 6 (pos 0) 5, Act) ∷ []) ≡ store_row (order_of o)
-    back (inl e) = subst (λ y. bones (before_store y) ++ bones ((Sd 6 (pos 0) 5, Act) ∷ []) ≡ store_row (order_of y)) (sym e) refl
-    back (inr (inl e)) = subst (λ y. bones (before_store y) ++ bones ((Sd 6 (pos 0) 5, Act) ∷ []) ≡ store_row (order_of y)) (sym e) refl
-    back (inr (inr e)) = subst (λ y. bones (before_store y) ++ bones ((Sd 6 (pos 0) 5, Act) ∷ []) ≡ store_row (order_of y)) (sym e) refl
+    back : IsStoreOrder o → bones (before_store o) ++ bones ((store_of 6 (pos 0) 5, Act) ∷ []) ≡ store_row (order_of o)
+    back (inl e) = subst (λ y. bones (before_store y) ++ bones ((store_of 6 (pos 0) 5, Act) ∷ []) ≡ store_row (order_of y)) (sym e) refl
+    back (inr (inl e)) = subst (λ y. bones (before_store y) ++ bones ((store_of 6 (pos 0) 5, Act) ∷ []) ≡ store_row (order_of y)) (sym e) refl
+    back (inr (inr e)) = subst (λ y. bones (before_store y) ++ bones ((store_of 6 (pos 0) 5, Act) ∷ []) ≡ store_row (order_of y)) (sym e) refl
 
 add_bones : (k g o : ℕ) (v : FirstValue) → IsRmwOrder o → bones (piece_of k (Plus g v o)) ≡ add_row (order_of o)
 add_bones k g o v h =
     let A : Piece = (Li 5 (address_of g), Silent) ∷ operand 6 v in
-    let B : Piece = (AmoAdd (ending_of o) 6 6 5, Act) ∷ slot_store 6 k in
-    bones_append A B ∙ ap (λ l. l ++ bones B) (bones_operand 6 v) ∙ ap (λ l. mark_of is_frame_register (AmoAdd (ending_of o) 6 6 5) ++ l) (bones_store k) ∙ mark h
+    let B : Piece = (addition_of (ending_of o) 6 6 5, Act) ∷ slot_store 6 k in
+    bones_append A B ∙ ap (λ l. l ++ bones B) (bones_operand 6 v) ∙ ap (λ l. mark_of is_frame_register (addition_of (ending_of o) 6 6 5) ++ l) (bones_store k) ∙ mark h
   where
-    mark : IsRmwOrder o → mark_of is_frame_register (AmoAdd (ending_of o) 6 6 5) ++ [] ≡ add_row (order_of o)
-    mark (inl e) = subst (λ y. mark_of is_frame_register (AmoAdd (ending_of y) 6 6 5) ++ [] ≡ add_row (order_of y)) (sym e) refl
-    mark (inr (inl e)) = subst (λ y. mark_of is_frame_register (AmoAdd (ending_of y) 6 6 5) ++ [] ≡ add_row (order_of y)) (sym e) refl
-    mark (inr (inr (inl e))) = subst (λ y. mark_of is_frame_register (AmoAdd (ending_of y) 6 6 5) ++ [] ≡ add_row (order_of y)) (sym e) refl
-    mark (inr (inr (inr (inl e)))) = subst (λ y. mark_of is_frame_register (AmoAdd (ending_of y) 6 6 5) ++ [] ≡ add_row (order_of y)) (sym e) refl
-    mark (inr (inr (inr (inr e)))) = subst (λ y. mark_of is_frame_register (AmoAdd (ending_of y) 6 6 5) ++ [] ≡ add_row (order_of y)) (sym e) refl
+    mark : IsRmwOrder o → mark_of is_frame_register (addition_of (ending_of o) 6 6 5) ++ [] ≡ add_row (order_of o)
+    mark (inl e) = subst (λ y. mark_of is_frame_register (addition_of (ending_of y) 6 6 5) ++ [] ≡ add_row (order_of y)) (sym e) refl
+    mark (inr (inl e)) = subst (λ y. mark_of is_frame_register (addition_of (ending_of y) 6 6 5) ++ [] ≡ add_row (order_of y)) (sym e) refl
+    mark (inr (inr (inl e))) = subst (λ y. mark_of is_frame_register (addition_of (ending_of y) 6 6 5) ++ [] ≡ add_row (order_of y)) (sym e) refl
+    mark (inr (inr (inr (inl e)))) = subst (λ y. mark_of is_frame_register (addition_of (ending_of y) 6 6 5) ++ [] ≡ add_row (order_of y)) (sym e) refl
+    mark (inr (inr (inr (inr e)))) = subst (λ y. mark_of is_frame_register (addition_of (ending_of y) 6 6 5) ++ [] ≡ add_row (order_of y)) (sym e) refl
 
 -- EACH PIECE HAS ITS ROW
 piece_bones : (globals : ℕ) (insts : List FirstInst) (k : ℕ) (i : FirstInst) → IsInst globals insts k i → bones (piece_of k i) ≡ row_of i
@@ -115,7 +117,7 @@ got_back [] ys m x e = (m, e)
 got_back (y ∷ xs) ys m x e = (let r = got_back xs ys m x e in (suc r.0, r.1))
 
 -- the range of instruction k of function f, whose code begins at a place
-abbrev range_at : ℕ → ℕ → ℕ → FirstInst → SiteRange
+abbrev pub range_at : ℕ → ℕ → ℕ → FirstInst → SiteRange
 range_at f k place i = record { site = record { function = f; instruction = k }; first = place; last = place + length (piece_of k i) - 1 }
 
 record SiteIn (f j place : ℕ) (insts : List FirstInst) (r : SiteRange) : Type 0 where
@@ -132,7 +134,7 @@ site_in f j place (i ∷ insts) (suc n) r e =
     let s = site_in f (j + 1) (place + length (piece_of j i)) insts n r e in
     record { k = suc s.k; i = s.i; at = s.at; is = s.is ∙ ap (λ m. range_at f m (place_in (place + length (piece_of j i)) (j + 1) insts s.k) s.i) (let k = s.k in let q : j + 1 + k ≡ j + suc k = omega arith in q) }
 
-record SiteOf (f0 place : ℕ) (functions : List (List FirstInst)) (r : SiteRange) : Type 0 where
+pub record SiteOf (f0 place : ℕ) (functions : List (List FirstInst)) (r : SiteRange) : Type 0 where
   pub f : ℕ
   pub k : ℕ
   pub insts : List FirstInst
@@ -141,7 +143,7 @@ record SiteOf (f0 place : ℕ) (functions : List (List FirstInst)) (r : SiteRang
   pub at : slice_get insts k ≡ Some i
   pub is : r ≡ range_at (f0 + f) k (begins_from place functions f k) i
 
-site_of : (f0 place : ℕ) (functions : List (List FirstInst)) (n : ℕ) (r : SiteRange) → slice_get (sites_from f0 place functions) n ≡ Some r → SiteOf f0 place functions r
+pub site_of : (f0 place : ℕ) (functions : List (List FirstInst)) (n : ℕ) (r : SiteRange) → slice_get (sites_from f0 place functions) n ≡ Some r → SiteOf f0 place functions r
 site_of f0 place [] n r e = absurd (let z : None ≡ Some r = e in cc)
 site_of f0 place (insts ∷ functions) n r e =
     by (λ m h. site_of (f0 + 1) (place + length (function_code 0 insts)) functions m r h) (got_either (sites_in f0 0 place insts) (sites_from (f0 + 1) (place + length (function_code 0 insts)) functions) n r e)
@@ -182,7 +184,7 @@ inst_parts None k i e = absurd (let z : None ≡ Some i = e in cc)
 inst_parts (Some insts) k i e = (insts, refl, e)
 
 pub has_rows : (image : Image RvInstr) (program : First) → IsFirst program → IsImageOf image program → FirstHasRows image program
-has_rows image program first im = record { covered = covered; rows = rows }
+has_rows image program first im = record { covered = covered; rows = rows; outside = outside; still = still; calm = calm }
   where
     whole : HasAt image.code (tag_at image.tags) 1 (program_code program.functions)
     whole =
@@ -209,3 +211,34 @@ has_rows image program first im = record { covered = covered; rows = rows }
         let row : skeleton is_frame_register (range_of image.code (range_at s.f s.k place s.i)) ≡ row_of s.i =
         ap (λ m. skeleton is_frame_register (codes_from image.code place m)) count ∙ ap (skeleton is_frame_register) (codes_at image.code (tag_at image.tags) place (piece_of s.k s.i) at) ∙ piece_bones (length program.globals) s.insts s.k s.i ((first.functions s.f s.insts s.function).each s.k s.i s.at) in
         (s.i, ap (λ (x : SiteRange). inst_at program x.site.function x.site.instruction) is ∙ here, ap (λ (x : SiteRange). skeleton is_frame_register (range_of image.code x)) is ∙ row)
+
+    outside : (place : ℕ) (x : RvInstr) → at_code image.code place ≡ Some x → IsOutside image place → ⊥
+    outside place x e out =
+        let all = program_code program.functions in
+        let size : length image.code ≡ length all = ap length im.code ∙ length-map all (λ (y : RvInstr × Tag). y.0) in
+        let at = code_place image.code place x e in
+        let low = at.0 in
+        let high = at.1 in
+        let c = cover 0 1 program.functions place low (omega (arith, high, size)) in
+        let inside = out.sites c.n c.r (ap (λ l. slice_get l c.n) im.sites ∙ c.at) in
+        let first = c.low in
+        let last = c.high in
+        ⊎_elim (λ h. omega (arith, h, first)) (λ h. omega (arith, h, last)) inside
+
+    still : (place : ℕ) (x : RvInstr) → at_code image.code place ≡ Some x → is_jump x ≡ false
+    still place x e = program_jumps program.functions image.code im.code place x e
+
+    calm : (n : ℕ) (r : SiteRange) → slice_get image.sites n ≡ Some r → (i : FirstInst) → inst_at program r.site.function r.site.instruction ≡ Some i → is_end i ≡ false
+        → (place : ℕ) (x : RvInstr) → at_code image.code place ≡ Some x → r.first ≤ place → place ≤ r.last → is_ret x ≡ false
+    calm n r e i got inner q x at low high =
+        let s = site_of 0 1 program.functions n r (sym (ap (λ l. slice_get l n) im.sites) ∙ e) in
+        let f = s.f in
+        let place = begins_from 1 program.functions s.f s.k in
+        let is : r ≡ range_at s.f s.k place s.i = s.is ∙ ap (λ m. range_at m s.k place s.i) (let z : 0 + f ≡ f = omega arith in z) in
+        let has = (stands image.code (tag_at image.tags) 1 program.functions whole s.f s.k s.insts s.i s.function s.at).0 in
+        let here : inst_at program s.f s.k ≡ Some s.i = ap (λ o. inst_in o s.k) s.function ∙ s.at in
+        let same : i ≡ s.i = same_Some i s.i (sym got ∙ ap (λ (y : SiteRange). inst_at program y.site.function y.site.instruction) is ∙ here) in
+        let first : r.first ≡ place = ap (λ (y : SiteRange). y.first) is in
+        let last : r.last ≡ place + length (piece_of s.k s.i) - 1 = ap (λ (y : SiteRange). y.last) is in
+        let some = piece_some s.k s.i in
+        in_piece image.code (tag_at image.tags) place (piece_of s.k s.i) has (piece_calm s.k s.i (ap is_end (sym same) ∙ inner)) q x (omega (arith, low, first)) (omega (arith, high, last, some)) at

@@ -1,11 +1,13 @@
 -- What code of the first form means, and where its numbers lie in a machine.
-use Rattle.std.proofs.Common.{◌≡◌, ℕ, ◌+◌, ◌-◌, ◌*◌, ◌^◌, ◌<◌, ◌≤◌, Bool, true, false, List, [], ◌∷◌, length, Option, Some, None}
+use Rattle.std.proofs.Common.{◌≡◌, ℕ, ◌+◌, ◌-◌, ◌*◌, ◌^◌, ◌<◌, ◌≤◌, true, false, List, length, Option, Some, None}
 use Rattle.std.specs.Prelude.{if◌then◌else◌, ◌&&◌, nat_lt, nat_eq, slice_get}
 use Rattle.ax_store.specs.Bytes.{number_at, all_inside}
 use Rattle.ax_store.specs.Storage.{Storage}
 use Rattle.ax_isa.specs.Processor.{Processor}
-use Rattle.ax_isa.specs.Run.{Given, Nothing, An_act, A_look, A_miss, frame_base}
-use Rattle.ax_isa.specs.Contract.{Meaning, Did}
+use Rattle.ax_tags.specs.declared.tags.Role.TheVariants.{None as Outside}
+use Rattle.ax_isa.specs.Tells.{Given, Nothing, An_act, A_look, A_miss}
+use Rattle.ax_isa.specs.Run.{frame_base}
+use Rattle.ax_follow.specs.Contract.{Meaning, Did}
 use Rattle.ax_first.specs.declared.first.First.{First}
 use Rattle.ax_first.specs.declared.first.FirstInst.{FirstInst}
 use Rattle.ax_first.specs.WellFormed.{IsFunction}
@@ -16,7 +18,7 @@ abbrev pub Numbers : Type 0
 Numbers = ℕ → ℕ → ℕ
 
 abbrev pub did : FirstInst → SourceProcessor → Numbers → Did SourceProcessor Numbers
-did i s w = record { processor = (deed i s w).processor; world = (deed i s w).numbers; output = (deed i s w).output }
+did i s w = record { processor = (deed i s w).processor; world = (deed i s w).numbers; output = (deed i s w).output; gives = An_act; excused = false }
 
 abbrev pub did_at : Option FirstInst → SourceProcessor → Numbers → Option (Did SourceProcessor Numbers)
 did_at None s w = None
@@ -68,8 +70,11 @@ meaning_of program begins =
     record {
       status = λ s. s.status;
       chosen = λ g p s w. chosen_of program g s w;
-      world = λ st. numbers_in (length program.globals) st.mem;
+      drained = λ p w. w;
+      drain_gives = λ p w. false;
+      sees = λ n w. numbers_in (length program.globals) n.storage.mem ≡ w;
+      number = λ s. 0;
       begins = λ s. begins s.function s.place;
-      matches = λ p c st s. Matched program p c st s;
+      matches = λ p c n s. Matched program p c n.storage s × (c.role ≡ Outside);
       fits = λ s w. Fitting program s w;
     }

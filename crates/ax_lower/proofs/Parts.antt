@@ -1,27 +1,28 @@
 -- Operands that are brought to a register, and results that are kept in their slot.
-use Rattle.std.proofs.Common.{◌≡◌, ℕ, zero, suc, ◌+◌, ◌-◌, ◌*◌, ◌%◌, ◌^◌, ◌<◌, ◌≤◌, Bool, true, false, List, [], ◌∷◌, ◌++◌, length, Option, Some, None, refl, sym, ap, ◌∙◌, subst, arith}
+use Rattle.std.proofs.Common.{◌≡◌, ℕ, ◌+◌, ◌%◌, ◌^◌, ◌<◌, ◌≤◌, Bool, true, false, List, [], ◌∷◌, ◌++◌, length, Some, refl, sym, ap, ◌∙◌, subst, arith}
 use Rattle.std.specs.Prelude.{◌≢◌, if◌then◌else◌, nat_lt, pos}
 use Rattle.std.proofs.lemmas.Bool.Decides.{nat_tests}
 use Rattle.ax_store.specs.Bytes.{number_at, all_inside, cut, put}
-use Rattle.ax_isa.specs.declared.cpu.Status.TheVariants.{Running}
+use Rattle.ax_isa.specs.declared.effects.Rest.TheVariants.{Zeros}
 use Rattle.ax_isa.specs.declared.effects.Effect.TheVariants.{Set, Load, Store}
-use Rattle.ax_isa.specs.declared.tags.Tag.{Tag}
-use Rattle.ax_isa.specs.declared.tags.Tag.TheVariants.{Silent}
+use Rattle.ax_tags.specs.declared.tags.Tag.{Tag}
+use Rattle.ax_tags.specs.declared.tags.Tag.TheVariants.{Silent}
 use Rattle.ax_isa.specs.Processor.{Processor}
-use Rattle.ax_isa.specs.Steps.{at_code, go_on, go_with}
-use Rattle.ax_isa.specs.Run.{frame_base}
+use Rattle.ax_isa.specs.Steps.{go_on, go_with}
+use Rattle.ax_isa.specs.Run.{at_code, frame_base}
 use Rattle.ax_rv.specs.declared.instructions.RvInstr.{RvInstr}
-use Rattle.ax_rv.specs.declared.instructions.RvInstr.TheVariants.{Li, Add, Ld, Sd}
-use Rattle.ax_rv.specs.Instructions.{effect_of, read, displaced}
+use Rattle.ax_rv.specs.declared.instructions.RvInstr.TheVariants.{Li}
+use Rattle.ax_lower.specs.Doubles.{sum_of, load_of, store_of}
+use Rattle.ax_rv.specs.Instructions.{displaced}
 use Rattle.ax_first.specs.declared.first.First.{First}
 use Rattle.ax_first.specs.declared.first.FirstValue.{FirstValue}
 use Rattle.ax_first.specs.declared.first.FirstValue.TheVariants.{Const, Result}
 use Rattle.ax_first.specs.FirstSource.{SourceProcessor, value_of}
 use Rattle.ax_lower.specs.Code.{Piece, below, far_below, near_load, far_load, near_store, far_store, slot_load, slot_store, operand}
 use Rattle.ax_lower.proofs.Meaning.{slot}
-use Rattle.ax_lower.proofs.Quiet.{at_same, at_other}
+use Rattle.ax_isa.proofs.Functions.{at_same, at_other}
 use Rattle.ax_lower.proofs.Words.{near_slot, far_slot, slot_there, slot_aligned}
-use Rattle.ax_lower.proofs.Silents.{OwnWord, Go, Ready, set_step, load_step, store_step, kept_frame}
+use Rattle.ax_lower.proofs.Silents.{OwnWord, Go, set_step, load_step, store_step}
 
 -- a slot is a word of the frame
 pub slot_own : (p r : ℕ) → r < 4096 → OwnWord p (slot p r)
@@ -50,13 +51,13 @@ module _ (program : First) (begins : ℕ → ℕ → ℕ) (code : List RvInstr) 
   go f a i s c = Go program begins code marks p ins few_globals f a i s c
 
   -- a slot's number to a register
-  near_loaded : (f : ℕ → ℕ) (i : ℕ) (s : SourceProcessor) (c : Processor) (rd r v : ℕ) → 6 ≤ rd → r < 256 → HasAt code marks c.place ((Ld rd (below r) 2, Silent) ∷ []) → c.place + 1 < 2 ^ 32 → c.regs 2 ≡ frame_base p + 131064 → all_inside ins (slot p r) 8 ≡ true → number_at f (slot p r) 8 ≡ v → i + 1 ≤ 8
+  near_loaded : (f : ℕ → ℕ) (i : ℕ) (s : SourceProcessor) (c : Processor) (rd r v : ℕ) → 6 ≤ rd → r < 256 → HasAt code marks c.place ((load_of rd (below r) 2, Silent) ∷ []) → c.place + 1 < 2 ^ 32 → c.regs 2 ≡ frame_base p + 131064 → all_inside ins (slot p r) 8 ≡ true → number_at f (slot p r) 8 ≡ v → i + 1 ≤ 8
       → ((c' : Processor) → Moved 6 1 c c' → c'.regs rd ≡ v → go f false (i + 1) s c') → go f false i s c
   near_loaded f i s c rd r v high small has place stack all spells room next =
-      load_step program begins code marks p ins few_globals f false i s c rd (slot p r) v (Ld rd (below r) 2) (record { at = has.0; mark = has.1; place = place; inner = λ e. absurd (let z : false ≡ true = e in cc) }) (ap (λ a. Load rd a 8 false) (near_slot p r (c.regs 2) few (omega (arith, small)) stack)) (slot_own p r (omega (arith, small))) all spells room
+      load_step program begins code marks p ins few_globals f false i s c rd (slot p r) v (load_of rd (below r) 2) (record { at = has.0; mark = has.1; place = place; inner = λ e. absurd (let z : false ≡ true = e in cc) }) (ap (λ a. Load rd a 8 Zeros false) (near_slot p r (c.regs 2) few (omega (arith, small)) stack)) (slot_own p r (omega (arith, small))) all spells room
       (next (go_with rd v c) (record { place = refl; status = refl; regs = λ q l. at_other c.regs rd v q (λ e. omega (arith, e, l, high)) }) (at_same c.regs rd v))
 
-  far_loaded : (f : ℕ → ℕ) (i : ℕ) (s : SourceProcessor) (c : Processor) (rd r v : ℕ) → 6 ≤ rd → r < 4096 → HasAt code marks c.place ((Li 7 (far_below r), Silent) ∷ (Add 8 2 7, Silent) ∷ (Ld rd (pos 0) 8, Silent) ∷ []) → c.place + 3 < 2 ^ 32 → c.regs 2 ≡ frame_base p + 131064 → all_inside ins (slot p r) 8 ≡ true → number_at f (slot p r) 8 ≡ v → i + 3 ≤ 8
+  far_loaded : (f : ℕ → ℕ) (i : ℕ) (s : SourceProcessor) (c : Processor) (rd r v : ℕ) → 6 ≤ rd → r < 4096 → HasAt code marks c.place ((Li 7 (far_below r), Silent) ∷ (sum_of 8 2 7, Silent) ∷ (load_of rd (pos 0) 8, Silent) ∷ []) → c.place + 3 < 2 ^ 32 → c.regs 2 ≡ frame_base p + 131064 → all_inside ins (slot p r) 8 ≡ true → number_at f (slot p r) 8 ≡ v → i + 3 ≤ 8
       → ((c' : Processor) → Moved 6 3 c c' → c'.regs rd ≡ v → go f false (i + 3) s c') → go f false i s c
   far_loaded f i s c rd r v high small has place stack all spells room next =
       let c1 = go_with 7 (far_below r) c in
@@ -68,8 +69,8 @@ module _ (program : First) (begins : ℕ → ℕ → ℕ) (code : List RvInstr) 
       let end : c3.place ≡ c.place + 3 = omega arith in
       let count : i + 1 + 1 + 1 ≡ i + 3 = omega arith in
       set_step program begins code marks p ins few_globals f false i s c 7 (far_below r) (Li 7 (far_below r)) (record { at = has.0; mark = has.1; place = omega (arith, place); inner = λ e. absurd (let z : false ≡ true = e in cc) }) refl (omega (arith, room))
-      (set_step program begins code marks p ins few_globals f false (i + 1) s c1 8 (slot p r) (Add 8 2 7) (record { at = has.2.0; mark = has.2.1; place = omega (arith, place); inner = λ e. absurd (let z : false ≡ true = e in cc) }) (ap (λ y. Set 8 y) sum) (omega (arith, room))
-      (load_step program begins code marks p ins few_globals f false (i + 1 + 1) s c2 rd (slot p r) v (Ld rd (pos 0) 8) (record { at = has.2.2.0; mark = has.2.2.1; place = omega (arith, place); inner = λ e. absurd (let z : false ≡ true = e in cc) }) (ap (λ a. Load rd a 8 false) there) (slot_own p r small) all spells (omega (arith, room))
+      (set_step program begins code marks p ins few_globals f false (i + 1) s c1 8 (slot p r) (sum_of 8 2 7) (record { at = has.2.0; mark = has.2.1; place = omega (arith, place); inner = λ e. absurd (let z : false ≡ true = e in cc) }) (ap (λ y. Set 8 y) sum) (omega (arith, room))
+      (load_step program begins code marks p ins few_globals f false (i + 1 + 1) s c2 rd (slot p r) v (load_of rd (pos 0) 8) (record { at = has.2.2.0; mark = has.2.2.1; place = omega (arith, place); inner = λ e. absurd (let z : false ≡ true = e in cc) }) (ap (λ a. Load rd a 8 Zeros false) there) (slot_own p r small) all spells (omega (arith, room))
       (subst (λ j. go f false j s c3) (sym count) (next c3 (record { place = end; status = refl; regs = λ q l. at_other c2.regs rd v q (λ e. omega (arith, e, l, high)) ∙ at_other c1.regs 8 (slot p r) q (λ e. omega (arith, e, l)) ∙ at_other c.regs 7 (far_below r) q (λ e. omega (arith, e, l)) }) (at_same c2.regs rd v)))))
 
   slot_loaded : (f : ℕ → ℕ) (i : ℕ) (s : SourceProcessor) (c : Processor) (rd r v : ℕ) → 6 ≤ rd → r < 4096 → HasAt code marks c.place (slot_load rd r) → c.place + 3 < 2 ^ 32 → c.regs 2 ≡ frame_base p + 131064 → all_inside ins (slot p r) 8 ≡ true → number_at f (slot p r) 8 ≡ v → i + 3 ≤ 8
@@ -101,7 +102,7 @@ module _ (program : First) (begins : ℕ → ℕ → ℕ) (code : List RvInstr) 
   near_kept : (f : ℕ → ℕ) (i : ℕ) (s : SourceProcessor) (c : Processor) (r v : ℕ) → r < 256 → HasAt code marks c.place (near_store 6 r) → c.place + 1 < 2 ^ 32 → c.regs 2 ≡ frame_base p + 131064 → all_inside ins (slot p r) 8 ≡ true → c.regs 6 ≡ v → i + 1 ≤ 8 → begins s.function s.place ≡ c.place + 1
       → ((c' : Processor) → Moved 6 1 c c' → go (put ins (slot p r) 8 (cut 8 v) f) true (i + 1) s c') → go f true i s c
   near_kept f i s c r v small has place stack all number room end next =
-      store_step program begins code marks p ins few_globals f true i s c (slot p r) v (Sd 6 (below r) 2) (record { at = has.0; mark = has.1; place = place; inner = λ e same. omega (arith, end, same) })
+      store_step program begins code marks p ins few_globals f true i s c (slot p r) v (store_of 6 (below r) 2) (record { at = has.0; mark = has.1; place = place; inner = λ e same. omega (arith, end, same) })
       (ap (λ a. Store a 8 (c.regs 6)) (near_slot p r (c.regs 2) few (omega (arith, small)) stack) ∙ ap (λ y. Store (slot p r) 8 y) number) (slot_own p r (omega (arith, small))) all room
       (next (go_on c) (record { place = refl; status = refl; regs = λ q l. refl }))
 
@@ -118,8 +119,8 @@ module _ (program : First) (begins : ℕ → ℕ → ℕ) (code : List RvInstr) 
       let last : c3.place ≡ c.place + 3 = omega arith in
       let count : i + 1 + 1 + 1 ≡ i + 3 = omega arith in
       set_step program begins code marks p ins few_globals f true i s c 7 (far_below r) (Li 7 (far_below r)) (record { at = has.0; mark = has.1; place = omega (arith, place); inner = λ e same. omega (arith, end, same) }) refl (omega (arith, room))
-      (set_step program begins code marks p ins few_globals f true (i + 1) s c1 8 (slot p r) (Add 8 2 7) (record { at = has.2.0; mark = has.2.1; place = omega (arith, place); inner = λ e same. omega (arith, end, same) }) (ap (λ y. Set 8 y) sum) (omega (arith, room))
-      (store_step program begins code marks p ins few_globals f true (i + 1 + 1) s c2 (slot p r) v (Sd 6 (pos 0) 8) (record { at = has.2.2.0; mark = has.2.2.1; place = omega (arith, place); inner = λ e same. omega (arith, end, same) }) (ap (λ a. Store a 8 (c2.regs 6)) there ∙ ap (λ y. Store (slot p r) 8 y) six) (slot_own p r small) all (omega (arith, room))
+      (set_step program begins code marks p ins few_globals f true (i + 1) s c1 8 (slot p r) (sum_of 8 2 7) (record { at = has.2.0; mark = has.2.1; place = omega (arith, place); inner = λ e same. omega (arith, end, same) }) (ap (λ y. Set 8 y) sum) (omega (arith, room))
+      (store_step program begins code marks p ins few_globals f true (i + 1 + 1) s c2 (slot p r) v (store_of 6 (pos 0) 8) (record { at = has.2.2.0; mark = has.2.2.1; place = omega (arith, place); inner = λ e same. omega (arith, end, same) }) (ap (λ a. Store a 8 (c2.regs 6)) there ∙ ap (λ y. Store (slot p r) 8 y) six) (slot_own p r small) all (omega (arith, room))
       (subst (λ j. go (put ins (slot p r) 8 (cut 8 v) f) true j s c3) (sym count) (next c3 (record { place = last; status = refl; regs = λ q l. at_other c1.regs 8 (slot p r) q (λ e. omega (arith, e, l)) ∙ at_other c.regs 7 (far_below r) q (λ e. omega (arith, e, l)) })))))
 
   -- a result to its slot

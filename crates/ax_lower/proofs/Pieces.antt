@@ -1,41 +1,43 @@
 -- The code of each instruction of the first form keeps in step with it.
-use Rattle.std.proofs.Common.{◌≡◌, ℕ, zero, suc, ◌+◌, ◌-◌, ◌*◌, ◌%◌, ◌^◌, ◌<◌, ◌≤◌, Bool, true, false, List, [], ◌∷◌, ◌++◌, length, Option, Some, None, refl, sym, ap, ◌∙◌, subst, arith, inl, inr, ⊎_elim, length-append}
+use Rattle.std.proofs.Common.{◌≡◌, ℕ, zero, suc, ◌+◌, ◌^◌, ◌<◌, ◌≤◌, Bool, true, false, List, [], ◌∷◌, ◌++◌, length, Some, None, refl, sym, ap, ◌∙◌, subst, arith, inl, inr, ⊎_elim, length-append}
 use Rattle.std.specs.Prelude.{◌≢◌, ◌⊎◌, if◌then◌else◌, nat_lt, nat_eq, pos, slice_get}
 use Rattle.std.proofs.lemmas.Bool.{cases_eq, cases_lt, false≢true}
-use Rattle.std.proofs.lemmas.Bool.Decides.{nat_tests}
-use Rattle.ax_ops.specs.declared.operation.RmwOp.TheVariants.{Add as Sum}
-use Rattle.ax_ops.specs.declared.source.SourceStatus.TheVariants.{Running as Runs}
+use Rattle.ax_words.specs.declared.operation.RmwOp.TheVariants.{Add as Sum}
 use Rattle.ax_store.specs.Bytes.{number_at, all_inside, cut, put}
 use Rattle.ax_store.specs.Storage.{Storage}
 use Rattle.ax_store.proofs.Numbers.{number_same}
-use Rattle.ax_isa.specs.declared.effects.Effect.TheVariants.{Set, Load as Loading, Store as Storing, Locked, Return as Returning, Output}
-use Rattle.ax_isa.specs.declared.tags.Tag.{Tag}
-use Rattle.ax_isa.specs.declared.tags.Tag.TheVariants.{Silent, Act}
+use Rattle.ax_isa.specs.declared.effects.Back.TheVariants.{Place}
+use Rattle.ax_isa.specs.declared.effects.Change.TheVariants.{Update}
+use Rattle.ax_isa.specs.declared.effects.Rest.TheVariants.{Zeros}
+use Rattle.ax_isa.specs.declared.effects.Effect.TheVariants.{Load as Loading, Store as Storing, Locked, Return as Returning, Output}
+use Rattle.ax_tags.specs.declared.tags.Tag.{Tag}
+use Rattle.ax_tags.specs.declared.tags.Tag.TheVariants.{Silent, Act}
 use Rattle.ax_isa.specs.Processor.{Processor}
-use Rattle.ax_isa.specs.Steps.{Noted, at_code, go_on, go_with}
+use Rattle.ax_isa.specs.Past.{Noted}
+use Rattle.ax_isa.specs.Steps.{go_on, go_with}
 use Rattle.ax_isa.specs.Run.{frame_base}
-use Rattle.ax_isa.specs.Contract.{Follows}
+use Rattle.ax_follow.specs.Contract.{stage_start, Follows}
 use Rattle.ax_rv.specs.declared.instructions.RvInstr.{RvInstr}
-use Rattle.ax_rv.specs.declared.instructions.RvInstr.TheVariants.{Li, Ld, Sd, AmoAdd, Fence, Ret, Ecall}
+use Rattle.ax_rv.specs.declared.instructions.RvInstr.TheVariants.{Li, Fence, Ret, Ecall}
+use Rattle.ax_lower.specs.Doubles.{load_of, store_of, addition_of}
 use Rattle.ax_rv.specs.declared.instructions.FenceSets.{FenceSets}
 use Rattle.ax_rv.specs.declared.instructions.FenceSets.TheVariants.{ReadBeforeAll, AllBeforeWrite, AllBeforeAll}
-use Rattle.ax_rv.specs.Instructions.{rv_kind, effect_of, displaced}
 use Rattle.ax_first.specs.declared.first.First.{First}
 use Rattle.ax_first.specs.declared.first.FirstInst.{FirstInst}
 use Rattle.ax_first.specs.declared.first.FirstInst.TheVariants.{Load, Store, Add as Plus, Out, Ret as Return}
 use Rattle.ax_first.specs.declared.first.FirstValue.{FirstValue}
 use Rattle.ax_first.specs.declared.first.FirstValue.TheVariants.{Const, Result}
-use Rattle.ax_first.specs.WellFormed.{IsOperand, IsFunction}
+use Rattle.ax_first.specs.WellFormed.{IsOperand}
 use Rattle.ax_first.specs.FirstSource.{SourceProcessor, put_at, gets, goes_on, inst_in, inst_at, value_of}
 use Rattle.ax_lower.specs.Layout.{address_of}
 use Rattle.ax_lower.specs.Code.{Piece, slot_store, near_store, far_store, operand, fence, before_load, after_load, before_store, ending_of, piece_of}
-use Rattle.ax_lower.proofs.Meaning.{Numbers, meaning_of, size_or, size_of, slot, Matched, Fitting, numbers_in}
-use Rattle.ax_lower.proofs.Quiet.{at_same, at_other}
-use Rattle.ax_lower.proofs.Straight.{Frame, ending}
+use Rattle.ax_lower.proofs.Meaning.{meaning_of, size_or, size_of, slot, Matched, Fitting, numbers_in}
+use Rattle.ax_isa.proofs.Functions.{at_same, at_other}
+use Rattle.ax_lower.proofs.Straight.{setting_of, reading_of, Frame}
 use Rattle.ax_lower.proofs.Words.{global_there, put_number, put_apart}
-use Rattle.ax_lower.proofs.Silents.{Go, Ready, set_step, nop_step}
+use Rattle.ax_lower.proofs.Silents.{Go, set_step, nop_step}
 use Rattle.ax_lower.proofs.Parts.{HasAt, has_parts, Moved, IsKept, operand_goes, result_kept}
-use Rattle.ax_lower.proofs.Acts.{load_acts, store_acts, add_acts, out_acts, ret_acts}
+use Rattle.ax_lower.proofs.Acts.{load_acts, store_acts, add_acts, out_acts, ret_acts, ending_first}
 
 -- an item that is there is before the list's end
 pub get_below : {A : Type 0} (xs : List A) (i : ℕ) (x : A) → slice_get xs i ≡ Some x → i < length xs
@@ -77,7 +79,7 @@ module _ (program : First) (begins : ℕ → ℕ → ℕ) (code : List RvInstr) 
   go f a i s c = Go program begins code marks p ins few_globals f a i s c
 
   abbrev In : (ℕ → ℕ) → Noted → Type 0
-  In f n = Frame rv_kind code marks (meaning_of program begins) 8 p ins f n
+  In f n = Frame code marks (meaning_of program begins) 8 p ins f n
 
   -- a fence, or none
   fence_goes : (f : ℕ → ℕ) (a : Bool) (i : ℕ) (s : SourceProcessor) (c : Processor) (b : Bool) (x : FenceSets) → HasAt code marks c.place (if b then fence x else []) → c.place + 1 < 2 ^ 32 → (a ≡ true → c.place ≢ begins s.function s.place) → i + 1 ≤ 8
@@ -104,7 +106,7 @@ module _ (program : First) (begins : ℕ → ℕ → ℕ) (code : List RvInstr) 
         shared = λ x l. ap (λ y. all_inside y (address_of x) 8) g.inside ∙ h.shared x l;
       }
     where
-      own : (r j : ℕ) → r + 2 ≤ size_of program s.function → j < 8 → Rattle.ax_isa.specs.Contract.IsOwn p (slot p r + j)
+      own : (r j : ℕ) → r + 2 ≤ size_of program s.function → j < 8 → Rattle.ax_follow.specs.Contract.IsOwn p (slot p r + j)
       own r j l u = (let x = h.small in (omega (arith, l, x), omega (arith, l, x, u)))
 
   -- at the end of a piece that kept a result
@@ -119,7 +121,7 @@ module _ (program : First) (begins : ℕ → ℕ → ℕ) (code : List RvInstr) 
         shared = λ x l. ap (λ y. all_inside y (address_of x) 8) g.inside ∙ h.shared x l;
       }
     where
-      own : (r j : ℕ) → r + 2 ≤ size_of program s.function → j < 8 → Rattle.ax_isa.specs.Contract.IsOwn p (slot p r + j)
+      own : (r j : ℕ) → r + 2 ≤ size_of program s.function → j < 8 → Rattle.ax_follow.specs.Contract.IsOwn p (slot p r + j)
       own r j l u = (let x = h.small in (omega (arith, l, x), omega (arith, l, x, u)))
 
       apart : (r : ℕ) → r + 2 ≤ size_of program s.function → r ≢ s.place → (slot p r + 8 ≤ slot p s.place) ⊎ (slot p s.place + 8 ≤ slot p r)
@@ -157,7 +159,7 @@ module _ (program : First) (begins : ℕ → ℕ → ℕ) (code : List RvInstr) 
   load_piece : (f : ℕ → ℕ) (s : SourceProcessor) (c : Processor) (insts : List FirstInst) (g o : ℕ) → Begun f s c insts (Load g o) → g < length program.globals → s.place + 2 ≤ size_of program s.function → go f false 0 s c
   load_piece f s c insts g o b less within =
       let A : Piece = (Li 5 (address_of g), Silent) ∷ before_load o in
-      let B : Piece = (Ld 6 (pos 0) 5, Act) ∷ after_load o in
+      let B : Piece = (load_of 6 (pos 0) 5, Act) ∷ after_load o in
       let C : Piece = slot_store 6 s.place in
       let h1 = has_parts code marks (A ++ B) C c.place b.has in
       let h2 = has_parts code marks A B c.place h1.0 in
@@ -174,7 +176,7 @@ module _ (program : First) (begins : ℕ → ℕ → ℕ) (code : List RvInstr) 
       let p2 : c.place + length A ≡ c2.place = (let x = m2.place in omega (arith, x)) in
       let hB = subst (λ y. HasAt code marks y B) p2 h2.1 in
       let five : c2.regs 5 ≡ address_of g = m2.regs 5 (omega arith) ∙ at_same c.regs 5 (address_of g) in
-      load_acts program begins code marks p ins few_globals f _ s c2 g o (Ld 6 (pos 0) 5) (record { at = hB.0; mark = hB.1; place = (let x = m2.place in omega (arith, x, room, lb)); inner = λ e. absurd (false≢true e) }) (ap (λ a. Loading 6 a 8 false) (global_there g (c2.regs 5) (omega (arith, less, few_globals)) five)) b.is less (b.there.shared g less)
+      load_acts program begins code marks p ins few_globals f _ s c2 g o (load_of 6 (pos 0) 5) (record { at = hB.0; mark = hB.1; place = (let x = m2.place in omega (arith, x, room, lb)); inner = λ e. absurd (false≢true e) }) (ap (λ a. Loading 6 a 8 Zeros false) (global_there g (c2.regs 5) (omega (arith, less, few_globals)) five)) b.is less (b.there.shared g less)
       (λ v small.
       let c3 = go_with 6 v c2 in
       fence_goes f true 0 (gets v s) c3 (nat_lt 0 o) ReadBeforeAll hB.2 (let x = m2.place in omega (arith, x, room, lb)) (λ e same. (let x = m2.place in omega (arith, x, same, end, whole, front, some))) (omega arith) (λ c4 m4.
@@ -184,12 +186,12 @@ module _ (program : First) (begins : ℕ → ℕ → ℕ) (code : List RvInstr) 
       let six : c4.regs 6 ≡ v = m4.regs 6 (omega arith) ∙ at_same c2.regs 6 v in
       let tiny : s.place < 4096 = (let x = b.there.small in omega (arith, within, x)) in
       result_kept program begins code marks p ins few_globals b.there.few f _ (gets v s) c4 s.place v tiny (subst (λ y. HasAt code marks y C) p4 h1.1) (let x = m2.place in let y = m4.place in omega (arith, x, y, room, lb, la)) (two ∙ b.there.stack) (b.there.frame s.place within) six (omega (arith, la)) (let x = m2.place in let y = m4.place in omega (arith, x, y, end, whole, front))
-      (λ c5 m5. ending rv_kind code marks (meaning_of program begins) 8 p ins (put ins (slot p s.place) 8 (cut 8 v) f) _ (gets v s) c5 (let x = m2.place in let y = m4.place in let z = m5.place in omega (arith, x, y, z, end, whole, front)) (kept_matches f s c c5 v b.there within small (m5.regs 1 (omega arith) ∙ one) (m5.regs 2 (omega arith) ∙ two)))))))
+      (λ c5 m5. ending_first program begins code marks p ins few_globals (put ins (slot p s.place) 8 (cut 8 v) f) _ (gets v s) c5 (let x = m2.place in let y = m4.place in let z = m5.place in omega (arith, x, y, z, end, whole, front)) (kept_matches f s c c5 v b.there within small (m5.regs 1 (omega arith) ∙ one) (m5.regs 2 (omega arith) ∙ two)))))))
 
   add_piece : (f : ℕ → ℕ) (s : SourceProcessor) (c : Processor) (insts : List FirstInst) (g o : ℕ) (v : FirstValue) → Begun f s c insts (Plus g v o) → g < length program.globals → IsOperand insts s.place v → s.place + 2 ≤ size_of program s.function → go f false 0 s c
   add_piece f s c insts g o v b less fits within =
       let A : Piece = (Li 5 (address_of g), Silent) ∷ operand 6 v in
-      let B : Piece = (AmoAdd (ending_of o) 6 6 5, Act) ∷ slot_store 6 s.place in
+      let B : Piece = (addition_of (ending_of o) 6 6 5, Act) ∷ slot_store 6 s.place in
       let h = has_parts code marks A B c.place b.has in
       let whole = length-append A B in
       let some = store_some s.place in
@@ -203,8 +205,8 @@ module _ (program : First) (begins : ℕ → ℕ → ℕ) (code : List RvInstr) 
       let p2 : c.place + length A ≡ c2.place = (let x = m2.place in omega (arith, x)) in
       let hB = subst (λ y. HasAt code marks y B) p2 h.1 in
       let five : c2.regs 5 ≡ address_of g = m2.regs 5 (omega arith) ∙ at_same c.regs 5 (address_of g) in
-      add_acts program begins code marks p ins few_globals f _ s c2 g o v (AmoAdd (ending_of o) 6 6 5) (record { at = hB.0; mark = hB.1; place = (let x = m2.place in omega (arith, x, room, lo)); inner = λ e. absurd (false≢true e) })
-      (ap (λ a. Locked 6 a 8 Sum (c2.regs 6) false) five ∙ ap (λ y. Locked 6 (address_of g) 8 Sum y false) six) b.is less (value_small s insts s.place v fits b.values) (b.there.shared g less)
+      add_acts program begins code marks p ins few_globals f _ s c2 g o v (addition_of (ending_of o) 6 6 5) (record { at = hB.0; mark = hB.1; place = (let x = m2.place in omega (arith, x, room, lo)); inner = λ e. absurd (false≢true e) })
+      (ap (λ a. Locked 6 0 a 8 Zeros (Update Sum (c2.regs 6))) five ∙ ap (λ y. Locked 6 0 (address_of g) 8 Zeros (Update Sum y)) six) b.is less (value_small s insts s.place v fits b.values) (b.there.shared g less)
       (λ n small.
       let c3 = go_with 6 n c2 in
       let p3 : (c.place + length A) + 1 ≡ c3.place = (let x = m2.place in omega (arith, x)) in
@@ -212,13 +214,13 @@ module _ (program : First) (begins : ℕ → ℕ → ℕ) (code : List RvInstr) 
       let one : c3.regs 1 ≡ c.regs 1 = at_other c2.regs 6 n 1 (λ e. omega (arith, e)) ∙ m2.regs 1 (omega arith) ∙ at_other c.regs 5 (address_of g) 1 (λ e. omega (arith, e)) in
       let tiny : s.place < 4096 = (let x = b.there.small in omega (arith, within, x)) in
       result_kept program begins code marks p ins few_globals few f 0 (gets n s) c3 s.place n tiny hB.2 (let x = m2.place in omega (arith, x, room, lo)) (two ∙ b.there.stack) (b.there.frame s.place within) (at_same c2.regs 6 n) (omega arith) (let x = m2.place in omega (arith, x, end, whole))
-      (λ c4 m4. ending rv_kind code marks (meaning_of program begins) 8 p ins (put ins (slot p s.place) 8 (cut 8 n) f) _ (gets n s) c4 (let x = m2.place in let y = m4.place in omega (arith, x, y, end, whole)) (kept_matches f s c c4 n b.there within small (m4.regs 1 (omega arith) ∙ one) (m4.regs 2 (omega arith) ∙ two))))))
+      (λ c4 m4. ending_first program begins code marks p ins few_globals (put ins (slot p s.place) 8 (cut 8 n) f) _ (gets n s) c4 (let x = m2.place in let y = m4.place in omega (arith, x, y, end, whole)) (kept_matches f s c c4 n b.there within small (m4.regs 1 (omega arith) ∙ one) (m4.regs 2 (omega arith) ∙ two))))))
 
   store_piece : (f : ℕ → ℕ) (s : SourceProcessor) (c : Processor) (insts : List FirstInst) (g o : ℕ) (v : FirstValue) → Begun f s c insts (Store v g o) → g < length program.globals → IsOperand insts s.place v → go f false 0 s c
   store_piece f s c insts g o v b less fits =
       let A : Piece = (Li 5 (address_of g), Silent) ∷ operand 6 v in
       let B : Piece = before_store o in
-      let C : Piece = (Sd 6 (pos 0) 5, Act) ∷ [] in
+      let C : Piece = (store_of 6 (pos 0) 5, Act) ∷ [] in
       let h1 = has_parts code marks (A ++ B) C c.place b.has in
       let h2 = has_parts code marks A B c.place h1.0 in
       let whole = length-append (A ++ B) C in
@@ -239,9 +241,9 @@ module _ (program : First) (begins : ℕ → ℕ → ℕ) (code : List RvInstr) 
       let number : c3.regs 6 ≡ value_of v s = m3.regs 6 (omega arith) ∙ six in
       let two : c3.regs 2 ≡ c.regs 2 = m3.regs 2 (omega arith) ∙ m2.regs 2 (omega arith) ∙ at_other c.regs 5 (address_of g) 2 (λ e. omega (arith, e)) in
       let one : c3.regs 1 ≡ c.regs 1 = m3.regs 1 (omega arith) ∙ m2.regs 1 (omega arith) ∙ at_other c.regs 5 (address_of g) 1 (λ e. omega (arith, e)) in
-      store_acts program begins code marks p ins few_globals f _ s c3 g o v (Sd 6 (pos 0) 5) (record { at = hC.0; mark = hC.1; place = (let x = m2.place in let y = m3.place in omega (arith, x, y, room, lo, lb)); inner = λ e. absurd (false≢true e) })
+      store_acts program begins code marks p ins few_globals f _ s c3 g o v (store_of 6 (pos 0) 5) (record { at = hC.0; mark = hC.1; place = (let x = m2.place in let y = m3.place in omega (arith, x, y, room, lo, lb)); inner = λ e. absurd (false≢true e) })
       (ap (λ a. Storing a 8 (c3.regs 6)) (global_there g (c3.regs 5) (omega (arith, less, few_globals)) five) ∙ ap (λ y. Storing (address_of g) 8 y) number) b.is less (value_small s insts s.place v fits b.values) (b.there.shared g less)
-      (ending rv_kind code marks (meaning_of program begins) 8 p ins f 0 (goes_on s) (go_on c3) (let x = m2.place in let y = m3.place in omega (arith, x, y, end, whole, front)) (same_matches f s (goes_on s) c (go_on c3) b.there one two refl refl)))))
+      (ending_first program begins code marks p ins few_globals f 0 (goes_on s) (go_on c3) (let x = m2.place in let y = m3.place in omega (arith, x, y, end, whole, front)) (same_matches f s (goes_on s) c (go_on c3) b.there one two refl refl)))))
 
   out_piece : (f : ℕ → ℕ) (s : SourceProcessor) (c : Processor) (insts : List FirstInst) (v : FirstValue) → Begun f s c insts (Out v) → IsOperand insts s.place v → go f false 0 s c
   out_piece f s c insts v b fits =
@@ -257,12 +259,12 @@ module _ (program : First) (begins : ℕ → ℕ → ℕ) (code : List RvInstr) 
       let p2 : c.place + length A ≡ c2.place = (let x = m2.place in omega (arith, x)) in
       let hB = subst (λ y. HasAt code marks y B) p2 h.1 in
       out_acts program begins code marks p ins few_globals f _ s c2 v Ecall (record { at = hB.0; mark = hB.1; place = (let x = m2.place in omega (arith, x, room, lo)); inner = λ e. absurd (false≢true e) }) (ap (λ y. Output y) ten) b.is
-      (ending rv_kind code marks (meaning_of program begins) 8 p ins f 0 (goes_on s) (go_on c2) (let x = m2.place in omega (arith, x, end, whole)) (same_matches f s (goes_on s) c (go_on c2) b.there (m2.regs 1 (omega arith)) (m2.regs 2 (omega arith)) refl refl)))
+      (ending_first program begins code marks p ins few_globals f 0 (goes_on s) (go_on c2) (let x = m2.place in omega (arith, x, end, whole)) (same_matches f s (goes_on s) c (go_on c2) b.there (m2.regs 1 (omega arith)) (m2.regs 2 (omega arith)) refl refl)))
 
   ret_piece : (f : ℕ → ℕ) (s : SourceProcessor) (c : Processor) (insts : List FirstInst) → Begun f s c insts Return → go f false 0 s c
   ret_piece f s c insts b =
       let room = b.room in
-      ret_acts program begins code marks p ins few_globals f 0 s c Ret (record { at = b.has.0; mark = b.has.1; place = omega (arith, room); inner = λ e. absurd (false≢true e) }) (ap (λ y. Returning y) b.there.back) b.is
+      ret_acts program begins code marks p ins few_globals f 0 s c Ret (record { at = b.has.0; mark = b.has.1; place = omega (arith, room); inner = λ e. absurd (false≢true e) }) (ap (λ y. Returning (Place y)) b.there.back) b.is
 
 -- where each instruction's code stands
 pub record Laid (program : First) (begins : ℕ → ℕ → ℕ) (code : List RvInstr) (marks : ℕ → Tag) (f k : ℕ) (i : FirstInst) : Type 0 where
@@ -273,8 +275,8 @@ pub record Laid (program : First) (begins : ℕ → ℕ → ℕ) (code : List Rv
 -- THE CODE FOLLOWS THE PROGRAM
 pub follows_first : (program : First) (begins : ℕ → ℕ → ℕ) (code : List RvInstr) (marks : ℕ → Tag) → length program.globals ≤ 256 → ((f : ℕ) (insts : List FirstInst) → slice_get program.functions f ≡ Some insts → length insts ≤ 2048)
     → ((f k : ℕ) (insts : List FirstInst) (i : FirstInst) → slice_get program.functions f ≡ Some insts → slice_get insts k ≡ Some i → Laid program begins code marks f k i)
-    → Follows (meaning_of program begins) 8 rv_kind code marks
-follows_first program begins code marks few_globals short laid = record { follows = λ p s c n runs place matches fits hs. starts p s c n place matches fits n (record { inside = refl; own = λ a o. refl }) hs }
+    → Follows (meaning_of program begins) (reading_of marks 8) (setting_of code marks)
+follows_first program begins code marks few_globals short laid = record { follows = λ p s c n w runs place matches sees fits hs. starts p s c n place matches.0 (subst (λ z. Fitting program s z) (sym sees) fits) n (record { inside = refl; own = λ a o. refl }) stage_start refl (omega arith) matches.1 hs }
   where
     starts : (p : ℕ) (s : SourceProcessor) (c : Processor) (n : Noted) → c.place ≡ begins s.function s.place → Matched program p c n.storage s → Fitting program s (numbers_in (length program.globals) n.storage.mem)
         → Go program begins code marks p n.storage.inside few_globals n.storage.mem false 0 s c

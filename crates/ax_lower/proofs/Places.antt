@@ -1,13 +1,13 @@
 -- Where each instruction's code stands in the image of a program.
-use Rattle.std.proofs.Common.{◌≡◌, ℕ, zero, suc, ◌+◌, ◌-◌, ◌*◌, ◌^◌, ◌<◌, ◌≤◌, Bool, true, false, List, [], ◌∷◌, ◌++◌, length, map, Option, Some, None, refl, sym, ap, ◌∙◌, subst, arith, length-append, append_assoc}
+use Rattle.std.proofs.Common.{◌≡◌, ℕ, zero, suc, ◌+◌, ◌*◌, ◌<◌, ◌≤◌, Bool, true, false, List, [], ◌∷◌, ◌++◌, length, map, Some, None, refl, sym, ap, ◌∙◌, subst, arith, length-append, append_assoc}
 use Rattle.std.specs.Prelude.{slice_get, slice_index_or, nat_lt, nat_eq, if◌then◌else◌, pos}
 use Rattle.std.proofs.lemmas.Option.{same_Some}
-use Rattle.ax_isa.specs.declared.tags.Tag.{Tag}
-use Rattle.ax_isa.specs.declared.tags.Tag.TheVariants.{Silent, Act}
-use Rattle.ax_isa.specs.Steps.{at_code}
+use Rattle.ax_tags.specs.declared.tags.Tag.{Tag}
+use Rattle.ax_tags.specs.declared.tags.Tag.TheVariants.{Silent, Act}
 use Rattle.ax_isa.specs.Run.{tag_or, tag_at}
 use Rattle.ax_rv.specs.declared.instructions.RvInstr.{RvInstr}
-use Rattle.ax_rv.specs.declared.instructions.RvInstr.TheVariants.{Li, Ld, Sd, AmoAdd, Ecall}
+use Rattle.ax_rv.specs.declared.instructions.RvInstr.TheVariants.{Li, Ecall}
+use Rattle.ax_lower.specs.Doubles.{load_of, store_of, addition_of}
 use Rattle.ax_first.specs.declared.first.FirstInst.{FirstInst}
 use Rattle.ax_first.specs.declared.first.FirstInst.TheVariants.{Load, Store, Add as Plus, Out, Ret as Return}
 use Rattle.ax_lower.specs.Code.{Piece, near_store, far_store, slot_store, operand, before_load, after_load, before_store, fence, ending_of, piece_of, function_code, program_code, entries_from, frames_of}
@@ -85,7 +85,7 @@ store_small r = go (nat_lt r 256)
 pub piece_small : (k : ℕ) (i : FirstInst) → length (piece_of k i) ≤ 8
 piece_small k (Load g o) =
     let A : Piece = (Li 5 (address_of g), Silent) ∷ before_load o in
-    let B : Piece = (Ld 6 (pos 0) 5, Act) ∷ after_load o in
+    let B : Piece = (load_of 6 (pos 0) 5, Act) ∷ after_load o in
     let whole = length-append (A ++ B) (slot_store 6 k) in
     let front = length-append A B in
     let x = fence_small (nat_eq o 5) AllBeforeAll in
@@ -94,14 +94,14 @@ piece_small k (Load g o) =
     omega (arith, whole, front, x, y, z)
 piece_small k (Store v g o) =
     let A : Piece = (Li 5 (address_of g), Silent) ∷ operand 6 v in
-    let whole = length-append (A ++ before_store o) ((Sd 6 (pos 0) 5, Act) ∷ []) in
+    let whole = length-append (A ++ before_store o) ((store_of 6 (pos 0) 5, Act) ∷ []) in
     let front = length-append A (before_store o) in
     let x = fence_small (nat_lt 0 o) AllBeforeWrite in
     let y = operand_small v 6 in
     omega (arith, whole, front, x, y)
 piece_small k (Plus g v o) =
     let A : Piece = (Li 5 (address_of g), Silent) ∷ operand 6 v in
-    let whole = length-append A ((AmoAdd (ending_of o) 6 6 5, Act) ∷ slot_store 6 k) in
+    let whole = length-append A ((addition_of (ending_of o) 6 6 5, Act) ∷ slot_store 6 k) in
     let x = store_small k in
     let y = operand_small v 6 in
     omega (arith, whole, x, y)

@@ -1,23 +1,21 @@
 -- What holds of each state that the source machine can reach.
-use Rattle.std.proofs.Common.{◌≡◌, ℕ, zero, suc, ◌+◌, ◌%◌, ◌^◌, ◌<◌, ◌≤◌, Bool, true, false, List, [], ◌∷◌, ◌++◌, length, Option, Some, None, refl, sym, ap, ◌∙◌, subst, arith, inl, inr, ⊎_elim}
-use Rattle.std.specs.Prelude.{◌≢◌, ◌⊎◌, if◌then◌else◌, nat_eq, slice_get, slice_index_or}
+use Rattle.std.proofs.Common.{◌≡◌, ℕ, zero, suc, ◌+◌, ◌%◌, ◌^◌, ◌<◌, Bool, true, false, List, [], ◌∷◌, length, Option, Some, None, refl, sym, ap, ◌∙◌, arith, inl, inr}
+use Rattle.std.specs.Prelude.{if◌then◌else◌, nat_eq, slice_get, slice_index_or}
 use Rattle.std.proofs.lemmas.Bool.{cases_eq}
-use Rattle.std.proofs.lemmas.Option.{same_Some}
-use Rattle.ax_ops.specs.declared.source.SourceEvent.{SourceEvent}
-use Rattle.ax_ops.specs.declared.source.SourceEvent.TheVariants.{Act, Look, Miss, Drain}
-use Rattle.ax_ops.specs.declared.source.SourceStatus.{SourceStatus}
-use Rattle.ax_ops.specs.declared.source.SourceStatus.TheVariants.{Running as Runs, Ended as Ends, Trapped as Traps}
-use Rattle.ax_isa.specs.Run.{An_act}
-use Rattle.ax_isa.specs.Contract.{Whole, meant, meant_if, meant_run, after_did}
+use Rattle.ax_words.specs.declared.source.SourceEvent.{SourceEvent}
+use Rattle.ax_words.specs.declared.source.SourceEvent.TheVariants.{Act, Look, Miss, Drain}
+use Rattle.ax_words.specs.declared.source.SourceStatus.{SourceStatus}
+use Rattle.ax_words.specs.declared.source.SourceStatus.TheVariants.{Running as Runs, Ended as Ends, Trapped as Traps}
+use Rattle.ax_isa.specs.Tells.{An_act, A_look, A_miss}
+use Rattle.ax_follow.specs.Contract.{Whole, meant, meant_if, meant_run, after_did}
 use Rattle.ax_first.specs.declared.first.First.{First}
 use Rattle.ax_first.specs.declared.first.FirstInst.{FirstInst}
 use Rattle.ax_first.specs.declared.first.FirstInst.TheVariants.{Load, Store, Add as Plus, Out, Ret as Return}
 use Rattle.ax_first.specs.declared.first.FirstValue.{FirstValue}
 use Rattle.ax_first.specs.declared.first.FirstValue.TheVariants.{Const, Result}
 use Rattle.ax_first.specs.WellFormed.{IsFirst, IsFunction, IsOperand, AreEntries}
-use Rattle.ax_first.specs.FirstSource.{SourceProcessor, SourceState, Deed, put_at, deed, gets, element_set, value_of, after, inst_in, inst_at, act_at, act_if, source_event, source_run, source_start, first_processor, first_numbers}
+use Rattle.ax_first.specs.FirstSource.{SourceProcessor, SourceState, Deed, put_at, deed, element_set, value_of, after, inst_in, inst_at, act_at, act_if, source_event, source_run, source_start, first_processor, first_numbers}
 use Rattle.ax_lower.proofs.Meaning.{Numbers, did_at, meaning_of, Fitting}
-use Rattle.ax_lower.proofs.Quiet.{at_same, at_other}
 use Rattle.ax_lower.proofs.Pieces.{get_below}
 
 -- the source machine is the meaning of code
@@ -38,7 +36,7 @@ module _ (program : First) (begins : ℕ → ℕ → ℕ) where
   act_if_meant Ends p s = refl
   act_if_meant Traps p s = refl
 
-  nothing_meant : (x : SourceStatus) (p : ℕ) (s : SourceState) → (meant_if (meaning_of program begins) x Rattle.ax_isa.specs.Run.A_look p (whole_of s) ≡ whole_of s) × (meant_if (meaning_of program begins) x Rattle.ax_isa.specs.Run.A_miss p (whole_of s) ≡ whole_of s)
+  nothing_meant : (x : SourceStatus) (p : ℕ) (s : SourceState) → (meant_if (meaning_of program begins) x A_look p (whole_of s) ≡ whole_of s) × (meant_if (meaning_of program begins) x A_miss p (whole_of s) ≡ whole_of s)
   nothing_meant Runs p s = (refl, refl)
   nothing_meant Ends p s = (refl, refl)
   nothing_meant Traps p s = (refl, refl)

@@ -1,53 +1,51 @@
 -- What holds of a program's image holds of it for the module.
-use Rattle.std.proofs.Common.{◌≡◌, ℕ, zero, suc, ◌+◌, ◌-◌, ◌*◌, ◌/◌, ◌%◌, ◌<◌, ◌≤◌, Bool, true, false, List, [], ◌∷◌, length, map, Option, Some, None, refl, sym, ap, ◌∙◌, subst, arith, inl, inr}
+use Rattle.std.proofs.Common.{◌≡◌, ℕ, zero, suc, ◌+◌, ◌-◌, ◌*◌, ◌/◌, ◌%◌, ◌<◌, ◌≤◌, Bool, true, false, List, [], ◌∷◌, length, map, Option, Some, None, refl, sym, ap, ◌∙◌, subst, arith}
 use Rattle.std.specs.Cmp.Lexicographic.{pointwise}
 use Rattle.std.specs.Prelude.{codes, if◌then◌else◌, ◌&&◌, ◌==◌, nat_eq, nat_lt, nat_le, slice_get, slice_index_or}
-use Rattle.std.proofs.lemmas.Bool.{and_parts, cases_Bool, true≢false}
+use Rattle.std.proofs.lemmas.Bool.{and_parts, true≢false}
 use Rattle.std.proofs.lemmas.Bool.Decides.{nat_tests}
 use Rattle.std.proofs.lemmas.Option.{option_and_then_some, same_Some}
-use Rattle.ax_ops.specs.declared.mark.Mark.{Mark}
-use Rattle.ax_ops.specs.declared.mark.Op.TheVariants as op
-use Rattle.ax_ops.specs.declared.operation.RmwOp.{RmwOp}
-use Rattle.ax_ops.specs.declared.operation.RmwOp.TheVariants as rmw
-use Rattle.ax_ops.specs.declared.order.Access.TheVariants as access
-use Rattle.ax_ops.specs.declared.order.Order.{Order}
-use Rattle.ax_ops.specs.declared.order.Order.TheVariants.{Unordered, Monotonic, Acquire, Release, AcqRel, SeqCst}
-use Rattle.ax_ops.specs.declared.source.SourceEvent.{SourceEvent}
-use Rattle.ax_ops.specs.Routine.{name_of, routine_named}
-use Rattle.ax_ops.specs.declared.width.Width.TheVariants.{W64}
+use Rattle.ax_words.specs.declared.mark.Mark.{Mark}
+use Rattle.ax_words.specs.declared.mark.Op.TheVariants as op
+use Rattle.ax_words.specs.declared.operation.RmwOp.TheVariants as rmw
+use Rattle.ax_words.specs.declared.order.Access.TheVariants as access
+use Rattle.ax_words.specs.declared.order.Order.{Order}
+use Rattle.ax_words.specs.declared.order.Order.TheVariants.{Unordered, Monotonic, Acquire, Release, AcqRel, SeqCst}
+use Rattle.ax_words.specs.declared.source.SourceEvent.{SourceEvent}
+use Rattle.ax_words.specs.Routine.{name_of, routine_named}
+use Rattle.ax_words.specs.declared.width.Width.TheVariants.{W64}
 use Rattle.ax_target.specs.declared.decision.Way.TheVariants.{Inline}
 use Rattle.ax_target.specs.declared.target.Target.TheVariants.{Rv}
 use Rattle.ax_target.specs.Rows as table
 use Rattle.ax_store.specs.Bytes.{byte_of, covers, number_at}
-use Rattle.ax_isa.specs.declared.events.Event.{Event}
+use Rattle.ax_words.specs.declared.event.Event.{Event}
 use Rattle.ax_isa.specs.declared.images.Image.{Image}
 use Rattle.ax_isa.specs.declared.images.SiteRange.{SiteRange}
-use Rattle.ax_isa.specs.Run.{Machine, machine_start, tag_at, run, explain, idle_run}
+use Rattle.ax_isa.specs.Tells.{given_of}
+use Rattle.ax_isa.specs.Run.{Machine, machine_start, tag_at, run, explain, idle_run, at_code}
 use Rattle.ax_rv.specs.declared.instructions.RvInstr.{RvInstr}
-use Rattle.ax_rv.specs.Instructions.{rv_kind}
+use Rattle.ax_lower.specs.Settings.{no_store, rv_setting}
 use Rattle.ax_rv.specs.Skeleton.{skeleton}
-use Rattle.ax_ir.specs.declared.inst.Inst.{Inst}
-use Rattle.ax_ir.specs.declared.inst.Inst.TheVariants as inst
-use Rattle.ax_ir.specs.declared.module.Function.{Function}
-use Rattle.ax_ir.specs.declared.module.Module.{Module}
-use Rattle.ax_ir.specs.declared.operand.Addr.{Addr}
-use Rattle.ax_ir.specs.declared.operand.Arg.{Arg}
-use Rattle.ax_ir.specs.declared.operand.Arg.TheVariants as arg
-use Rattle.ax_ir.specs.declared.operand.Operand.{Operand}
-use Rattle.ax_ir.specs.declared.types.Ty.{Ty}
-use Rattle.ax_ir.specs.declared.types.Ty.TheVariants.{I64}
-use Rattle.ax_ir.specs.Kinds.{is_phi}
+use Rattle.ax_module.specs.declared.inst.Inst.{Inst}
+use Rattle.ax_module.specs.declared.inst.Inst.TheVariants as inst
+use Rattle.ax_module.specs.declared.module.Function.{Function}
+use Rattle.ax_module.specs.declared.module.Module.{Module}
+use Rattle.ax_module.specs.declared.operand.Arg.TheVariants as arg
+use Rattle.ax_module.specs.declared.operand.Operand.{Operand}
+use Rattle.ax_module.specs.declared.types.Ty.{Ty}
+use Rattle.ax_module.specs.declared.types.Ty.TheVariants.{I64}
+use Rattle.ax_module.specs.Kinds.{is_phi}
 use Rattle.ax_layout.specs.declared.span.Span.{Span}
 use Rattle.ax_layout.specs.Classes.{class_of}
-use Rattle.ax_layout.specs.Layout.{HasElement, LayoutState, address_in, bytes_in, layout_of, next_multiple, nowhere, span_in}
-use Rattle.ax_layout.specs.SourceAccess.{is_native_class, is_native_element}
-use Rattle.ax_layout.specs.SourcePointers.{insts_of}
-use Rattle.ax_layout.specs.SourceRun.{first_numbers, source_run, source_start}
-use Rattle.ax_layout.specs.SourceState.{SourceProgram, SourceState}
+use Rattle.ax_layout.specs.Layout.{HasElement, LayoutState, address_in, bytes_in, layout_of, next_multiple, span_in}
+use Rattle.ax_source_run.specs.SourceAccess.{is_native_class, is_native_element}
+use Rattle.ax_source_run.specs.SourcePointers.{insts_of}
+use Rattle.ax_source_run.specs.SourceRun.{first_numbers, source_run, source_start}
+use Rattle.ax_source_run.specs.SourceState.{SourceProgram, SourceState}
 use Rattle.ax_first.specs.declared.first.First.{First}
 use Rattle.ax_first.specs.declared.first.FirstInst.{FirstInst}
 use Rattle.ax_first.specs.declared.first.FirstInst.TheVariants as first_inst
-use Rattle.ax_first.specs.Alike.{CodesCorrespond, Corresponds, GlobalsAreWords, IsProgramOf, RunsAreAlike, on_rv64, whole_state, word_at, words, words_from}
+use Rattle.ax_first.specs.Alike.{CodesCorrespond, Corresponds, GlobalsAreWords, IsProgramOf, RunsAreAlike, on_rv64, whole_state, words, words_from}
 use Rattle.ax_first.specs.FirstKind.{inst_of, is_i64, is_out, is_plain_access, load_of, store_of, addition_of, output_of, global_of, operand_of}
 use Rattle.ax_first.specs.FirstKind as kind
 use Rattle.ax_first.specs.FirstSource as first
@@ -55,13 +53,17 @@ use Rattle.ax_first.specs.Kept.{EachIsKept}
 use Rattle.ax_first.specs.WellFormed.{AreEntries}
 use Rattle.ax_first.proofs.Options.{allowed, mapped}
 use Rattle.ax_first.proofs.Places.{i64_is, native_word, words_at, words_count}
-use Rattle.ax_lower.specs.Agree.{Agree, AreWaiting}
+use Rattle.ax_agree.specs.Agree.{Agree, AreStoresTo, is_native_entry, native_entries}
 use Rattle.ax_lower.specs.FirstAgree.{FirstAgree}
 use Rattle.ax_lower.specs.FirstLowers.{FirstLowers, FirstNeverIdles, explained_by, run_of, start_of}
-use Rattle.ax_lower.specs.FirstRows.{FirstHasRows, add_row, load_row, order_of, row_of, store_row}
+use Rattle.ax_lower.specs.FirstRows.{FirstHasRows, is_end, is_jump, is_ret, add_row, load_row, order_of, row_of, store_row}
 use Rattle.ax_lower.specs.Layout.{address_of, end_of, initial_byte, objects_of}
-use Rattle.ax_lower.specs.Lowers.{AreEntriesOf, Lowers, NeverIdles, byte_in, explanation, first_byte, machine_begins, machine_run, region_end}
-use Rattle.ax_lower.specs.Rows.{HasRows, call_row, counted, is_frame_register, range_of, row_at}
+use Rattle.ax_agree.specs.Lowers.{AreEntriesOf, Lowers, NeverIdles, byte_in, explanation, first_byte, machine_begins, machine_run, region_end}
+use Rattle.ax_isa.specs.Processor.{Processor}
+use Rattle.ax_rv.specs.declared.instructions.RvInstr.TheVariants as rv
+use Rattle.ax_rv.specs.Instructions.{effect_of, is_frame_register, rv_kind}
+use Rattle.ax_agree.specs.Rows.{HasRows, LeadsTo, StaysInline, call_row, counted, is_inline, range_of, row_at}
+use Rattle.ax_follow.proofs.Flat.{explain_same, idle_same}
 
 -- ---- the first state
 
@@ -122,7 +124,7 @@ module _ (words_law : GlobalsAreWords) (m : Module) (program : First) (of : IsPr
       ap (λ (l : LayoutState). byte_in m 0 l.spans a) layout_is ∙ bytes_from m program.globals (words_law m program of).1 0 8192 (length program.globals) a
       ∙ ap (λ x. if nat_le 65536 a && nat_lt a (65536 + 8 * length program.globals) then byte_of (slice_index_or program.globals x 0) ((a - 65536) % 8) else 0) (let e : 0 + (a - 65536) / 8 ≡ (a - 65536) / 8 = omega arith in e)
 
-  pub begins_same : (image : Image RvInstr) (entries : List ℕ) → machine_begins image (on_rv64 m) entries ≡ start_of image program entries
+  pub begins_same : (image : Image RvInstr) (entries : List ℕ) → machine_begins rv_kind image (on_rv64 m) entries ≡ start_of image program entries
   begins_same image entries =
       ap (λ (e : ℕ). machine_start 2 image.entries image.frames entries e (first_byte (on_rv64 m))) ends
       ∙ ap (λ (f : ℕ → ℕ). machine_start 2 image.entries image.frames entries (end_of program) f) (λ d a. byte_at a d)
@@ -184,33 +186,34 @@ module _ (words_law : GlobalsAreWords) (m : Module) (program : First) (of : IsPr
         statuses = h.statuses;
         native = λ g i e native. spelled_in g i e;
         locked = λ g i e locked word. absurd (true≢false (sym (not_locked g i e) ∙ locked));
-        pending = λ p. subst (λ ws. AreWaiting (laid (words n)) ws []) (sym (h.pending p)) refl;
+        pending = λ p. subst (λ ws. AreStoresTo (laid (words n)) (native_entries (laid (words n)) ws) []) (sym (h.pending p)) tt;
       }
 
       pub module_agrees : Agree (on_rv64 m) machine (whole_state s)
       module_agrees = subst (λ (l : LayoutState). Agree (laid l) machine (whole_state s)) (sym layout_is) laid_agrees
 
     module _ (runs : RunsAreAlike) (image : Image RvInstr) where
-      run_same : (entries : List ℕ) (events : List Event) → machine_run image (on_rv64 m) entries events ≡ run_of image program entries events
-      run_same entries events = ap (run rv_kind image.code events) (begins_same image entries)
+      run_same : (entries : List ℕ) (events : List Event) → machine_run rv_kind image (on_rv64 m) entries events ≡ run_of image program entries events
+      run_same entries events = ap (run (rv_setting image) events) (begins_same image entries)
 
-      told_same : (entries : List ℕ) (events : List Event) → explanation image (on_rv64 m) entries events ≡ explained_by image program entries events
-      told_same entries events = ap (explain rv_kind image.code (tag_at image.tags) events) (begins_same image entries)
+      told_same : (entries : List ℕ) (events : List Event) → explanation rv_kind image (on_rv64 m) entries events ≡ explained_by image program entries events
+      told_same entries events = explain_same (rv_setting image) refl given_of (tag_at image.tags) (is_native_entry (on_rv64 m)) no_store events (machine_begins rv_kind image (on_rv64 m) entries) (λ q. refl) ∙ ap (explain (rv_setting image) given_of (tag_at image.tags) no_store events) (begins_same image entries)
 
-      pub lowers_module : FirstLowers image program → Lowers image (on_rv64 m)
+      pub lowers_module : FirstLowers image program → Lowers rv_kind image (on_rv64 m)
       lowers_module h = record { agrees = agrees }
         where
-          agrees : (entries : List ℕ) → AreEntriesOf m entries → (events : List Event) → Agree (on_rv64 m) (machine_run image (on_rv64 m) entries events) (source_run (on_rv64 m) (explanation image (on_rv64 m) entries events) (source_start m entries))
+          agrees : (entries : List ℕ) → AreEntriesOf m entries → (events : List Event) → Agree (on_rv64 m) (machine_run rv_kind image (on_rv64 m) entries events) (source_run (on_rv64 m) (explanation rv_kind image (on_rv64 m) entries events) (source_start m entries))
           agrees entries are events =
-              subst (λ (x : Machine). Agree (on_rv64 m) x (source_run (on_rv64 m) (explanation image (on_rv64 m) entries events) (source_start m entries))) (sym (run_same entries events))
+              subst (λ (x : Machine). Agree (on_rv64 m) x (source_run (on_rv64 m) (explanation rv_kind image (on_rv64 m) entries events) (source_start m entries))) (sym (run_same entries events))
               (subst (λ (es : List SourceEvent). Agree (on_rv64 m) (run_of image program entries events) (source_run (on_rv64 m) es (source_start m entries))) (sym (told_same entries events))
               (subst (λ (x : SourceState). Agree (on_rv64 m) (run_of image program entries events) x) (sym (runs m program of entries (explained_by image program entries events)))
               (module_agrees (run_of image program entries events) (first.source_run program (explained_by image program entries events) (first.source_start program entries)) (h.agrees entries (entries_same entries are) events))))
 
-      pub module_is_busy : FirstNeverIdles image program → NeverIdles image (on_rv64 m)
+      pub module_is_busy : FirstNeverIdles image program → NeverIdles rv_kind image (on_rv64 m)
       module_is_busy h = record {
         few = λ entries are events p.
-            subst (λ (x : Machine). idle_run rv_kind image.code (tag_at image.tags) events x (λ q. 0) p < 4096) (sym (begins_same image entries)) (h.few entries (entries_same entries are) events p);
+            subst (λ (f : ℕ → ℕ). f p < 4096) (sym (idle_same (rv_setting image) refl given_of (tag_at image.tags) (is_native_entry (on_rv64 m)) no_store events (machine_begins rv_kind image (on_rv64 m) entries) (λ q. 0)))
+            (subst (λ (x : Machine). idle_run (rv_setting image) given_of (tag_at image.tags) no_store events x (λ q. 0) p < 4096) (sym (begins_same image entries)) (h.few entries (entries_same entries are) events p));
       }
 
 -- ---- rows
@@ -294,6 +297,43 @@ row_is globals earlier (inst.Call (Some t) name args) j e = absurd cc
 row_is globals earlier inst.RetVoid j e = ap (λ (k : FirstInst). Some (row_of k)) (same_Some first_inst.Ret j e)
 row_is globals earlier _ j e = absurd cc
 
+-- the instruction of an inline operation is no return
+not_end : (globals : ℕ) (earlier : List FirstInst) (i : Inst) (j : FirstInst) → inst_of globals earlier i ≡ Some j → is_inline (Rv false false) i ≡ true → is_end j ≡ false
+unfolding inst_of is_inline
+not_end globals earlier (inst.LoadAtomic t a x n) j e h =
+    let p = allowed (is_plain_access t n) _ j e in
+    option_and_then_some _ (global_of globals a) j p.1 (λ g at more. mapped _ (kind.order_of access.Load x) j more (λ o legal same. sym (ap is_end same)))
+not_end globals earlier (inst.StoreAtomic t v a x n) j e h =
+    let p = allowed (is_plain_access t n) _ j e in
+    option_and_then_some _ (operand_of earlier v) j p.1 (λ w got next. option_and_then_some _ (global_of globals a) j next (λ g at more. mapped _ (kind.order_of access.Store x) j more (λ o legal same. sym (ap is_end same))))
+not_end globals earlier (inst.Rmw rmw.Add a t v x n) j e h =
+    let p = allowed (is_plain_access t n) _ j e in
+    option_and_then_some _ (global_of globals a) j p.1 (λ g at next. option_and_then_some _ (operand_of earlier v) j next (λ w got more. mapped _ (kind.order_of access.Rmw x) j more (λ o legal same. sym (ap is_end same))))
+not_end globals earlier (inst.Rmw operation a t v x n) j e h = absurd cc
+not_end globals earlier (inst.Call result name args) j e h = absurd (true≢false (sym h))
+not_end globals earlier inst.RetVoid j e h = absurd (true≢false (sym h))
+not_end globals earlier _ j e h = absurd cc
+
+never_leads : (x : RvInstr) (c : Processor) (q : ℕ) → is_jump x ≡ false → LeadsTo (effect_of x c) q → ⊥
+never_leads (rv.Li rd n) c q g h = h
+never_leads (rv.Unary op rd rs) c q g h = h
+never_leads (rv.Binary op rd rs1 rs2) c q g h = h
+never_leads (rv.Shift op rd rs k) c q g h = h
+never_leads (rv.Immediate op rd rs n) c q g h = h
+never_leads (rv.Load form rd d rs1) c q g h = h
+never_leads (rv.Store form rs2 d rs1) c q g h = h
+never_leads (rv.LoadReserved size ending rd rs1) c q g h = h
+never_leads (rv.StoreConditional size ending rd rs2 rs1) c q g h = h
+never_leads (rv.Amo op size ending rd rs2 rs1) c q g h = h
+never_leads (rv.Fence sets) c q g h = h
+never_leads (rv.Jump distance) c q g h = true≢false g
+never_leads (rv.Call routine place) c q g h = true≢false g
+never_leads rv.Ret c q g h = h
+never_leads (rv.Branch condition rs1 rs2 distance) c q g h = true≢false g
+never_leads rv.Ecall c q g h = h
+never_leads rv.Ebreak c q g h = h
+never_leads rv.Nop c q g h = h
+
 module _ (codes_law : CodesCorrespond) (image : Image RvInstr) (m : Module) (program : First) (of : IsProgramOf m program) (h : FirstHasRows image program) where
   in_program : (f k : ℕ) (i : Inst) → slice_get (insts_of m f) k ≡ Some i → (o : Option FirstInst) → first.inst_at program f k ≡ o → Corresponds (length m.globals) (Some i) o → (j : FirstInst) × (first.inst_at program f k ≡ Some j)
   in_program f k i e None at c = absurd c
@@ -316,5 +356,43 @@ module _ (codes_law : CodesCorrespond) (image : Image RvInstr) (m : Module) (pro
       let i = in_module f k j.0 j.1 (slice_get (insts_of m f) k) refl (subst (λ (o : Option FirstInst). Corresponds (length m.globals) (slice_get (insts_of m f) k) o) j.1 (codes_law m program of f k)) in
       (i.0, i.1, λ marks is. j.2 ∙ same_Some (row_of j.0) marks (sym i.2 ∙ is))
 
-  pub module_has_rows : HasRows image (on_rv64 m)
-  module_has_rows = record { covered = covered; rows = rows }
+  -- what the code of an inline instruction's range doesn't do
+  kept : (n : ℕ) (r : SiteRange) → slice_get image.sites n ≡ Some r → (i : Inst) → slice_get (insts_of m r.site.function) r.site.instruction ≡ Some i → is_inline (Rv false false) i ≡ true
+      → (place : ℕ) (x : RvInstr) → at_code image.code place ≡ Some x → r.first ≤ place → place ≤ r.last → is_ret x ≡ false
+  kept n r e i here inlined place x at low high =
+      let j = h.rows n r e in
+      let f = r.site.function in
+      let k = r.site.instruction in
+      let c : Corresponds (length m.globals) (Some i) (Some j.0) = subst (λ o. Corresponds (length m.globals) (Some i) o) j.1 (subst (λ o. Corresponds (length m.globals) o (first.inst_at program f k)) here (codes_law m program of f k)) in
+      h.calm n r e j.0 j.1 (not_end (length m.globals) c.0 i j.0 c.1 inlined) place x at low high
+
+  stays : (last place : ℕ) (x : RvInstr) (c : Processor) → is_jump x ≡ false → is_ret x ≡ false → StaysInline rv_kind image last place (effect_of x c)
+  stays last place (rv.Li rd n) c j g = tt
+  stays last place (rv.Unary op rd rs) c j g = tt
+  stays last place (rv.Binary op rd rs1 rs2) c j g = tt
+  stays last place (rv.Shift op rd rs k) c j g = tt
+  stays last place (rv.Immediate op rd rs n) c j g = tt
+  stays last place (rv.Load form rd d rs1) c j g = tt
+  stays last place (rv.Store form rs2 d rs1) c j g = tt
+  stays last place (rv.LoadReserved size ending rd rs1) c j g = tt
+  stays last place (rv.StoreConditional size ending rd rs2 rs1) c j g = tt
+  stays last place (rv.Amo op size ending rd rs2 rs1) c j g = tt
+  stays last place (rv.Fence sets) c j g = tt
+  stays last place (rv.Jump distance) c j g = absurd (true≢false j)
+  stays last place (rv.Call routine target) c j g = absurd (true≢false j)
+  stays last place rv.Ret c j g = absurd (true≢false g)
+  stays last place (rv.Branch condition rs1 rs2 distance) c j g = absurd (true≢false j)
+  stays last place rv.Ecall c j g = tt
+  stays last place rv.Ebreak c j g = tt
+  stays last place rv.Nop c j g = tt
+
+  pub module_has_rows : HasRows rv_kind image (on_rv64 m)
+  module_has_rows =
+      record {
+        covered = covered;
+        rows = rows;
+        outside = λ place x at out. absurd (h.outside place x at out);
+        sites_entered = λ n r e place x at away c is q leads low high. absurd (never_leads x c q (h.still place x at) leads);
+        routines_entered = λ n r e place x at away c is q leads low high. absurd (never_leads x c q (h.still place x at) leads);
+        inline = λ n r e i here inlined place x at low high c is. stays r.last place x c (h.still place x at) (kept n r e i here inlined place x at low high);
+      }

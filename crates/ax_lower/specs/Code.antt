@@ -1,9 +1,10 @@
 -- The code of each instruction of the first form, and the image of a program.
 use Rattle.std.specs.Prelude.{◌≡◌, ℕ, zero, suc, ◌+◌, ◌-◌, ◌*◌, ◌^◌, if◌then◌else◌, nat_lt, nat_eq, ℤ, pos, negsuc, List, [], ◌∷◌, ◌++◌, length, map}
-use Rattle.ax_isa.specs.declared.tags.Tag.{Tag}
-use Rattle.ax_isa.specs.declared.tags.Tag.TheVariants.{Silent, Act}
+use Rattle.ax_tags.specs.declared.tags.Tag.{Tag}
+use Rattle.ax_tags.specs.declared.tags.Tag.TheVariants.{Silent, Act}
 use Rattle.ax_rv.specs.declared.instructions.RvInstr.{RvInstr}
-use Rattle.ax_rv.specs.declared.instructions.RvInstr.TheVariants.{Li, Add, Ld, Sd, AmoAdd, Fence, Ret, Ecall}
+use Rattle.ax_rv.specs.declared.instructions.RvInstr.TheVariants.{Li, Fence, Ret, Ecall}
+use Rattle.ax_lower.specs.Doubles.{sum_of, load_of, store_of, addition_of}
 use Rattle.ax_rv.specs.declared.instructions.Ending.{Ending}
 use Rattle.ax_rv.specs.declared.instructions.Ending.TheVariants.{Plain, Acquire, Release, AcquireRelease}
 use Rattle.ax_rv.specs.declared.instructions.FenceSets.{FenceSets}
@@ -29,16 +30,16 @@ far_below r = 2 ^ 64 - 8 * (r + 1)
 
 -- the registers: 2 is the stack pointer, 5 an address, 6 a number, 7 a distance, 8 the address of a far slot, 10 a number to put out
 abbrev pub near_load : ℕ → ℕ → Piece
-near_load rd r = (Ld rd (below r) 2, Silent) ∷ []
+near_load rd r = (load_of rd (below r) 2, Silent) ∷ []
 
 abbrev pub far_load : ℕ → ℕ → Piece
-far_load rd r = (Li 7 (far_below r), Silent) ∷ (Add 8 2 7, Silent) ∷ (Ld rd (pos 0) 8, Silent) ∷ []
+far_load rd r = (Li 7 (far_below r), Silent) ∷ (sum_of 8 2 7, Silent) ∷ (load_of rd (pos 0) 8, Silent) ∷ []
 
 abbrev pub near_store : ℕ → ℕ → Piece
-near_store rs r = (Sd rs (below r) 2, Silent) ∷ []
+near_store rs r = (store_of rs (below r) 2, Silent) ∷ []
 
 abbrev pub far_store : ℕ → ℕ → Piece
-far_store rs r = (Li 7 (far_below r), Silent) ∷ (Add 8 2 7, Silent) ∷ (Sd rs (pos 0) 8, Silent) ∷ []
+far_store rs r = (Li 7 (far_below r), Silent) ∷ (sum_of 8 2 7, Silent) ∷ (store_of rs (pos 0) 8, Silent) ∷ []
 
 abbrev pub slot_load : ℕ → ℕ → Piece
 slot_load rd r = if nat_lt r 256 then near_load rd r else far_load rd r
@@ -68,9 +69,9 @@ ending_of o = if nat_eq o 0 then Plain else (if nat_eq o 2 then Acquire else (if
 
 -- the code of instruction k of a function
 abbrev pub piece_of : ℕ → FirstInst → Piece
-piece_of k (Load g o) = (Li 5 (address_of g), Silent) ∷ before_load o ++ (Ld 6 (pos 0) 5, Act) ∷ after_load o ++ slot_store 6 k
-piece_of k (Store v g o) = (Li 5 (address_of g), Silent) ∷ operand 6 v ++ before_store o ++ (Sd 6 (pos 0) 5, Act) ∷ []
-piece_of k (Plus g v o) = (Li 5 (address_of g), Silent) ∷ operand 6 v ++ (AmoAdd (ending_of o) 6 6 5, Act) ∷ slot_store 6 k
+piece_of k (Load g o) = (Li 5 (address_of g), Silent) ∷ before_load o ++ (load_of 6 (pos 0) 5, Act) ∷ after_load o ++ slot_store 6 k
+piece_of k (Store v g o) = (Li 5 (address_of g), Silent) ∷ operand 6 v ++ before_store o ++ (store_of 6 (pos 0) 5, Act) ∷ []
+piece_of k (Plus g v o) = (Li 5 (address_of g), Silent) ∷ operand 6 v ++ (addition_of (ending_of o) 6 6 5, Act) ∷ slot_store 6 k
 piece_of k (Out v) = operand 10 v ++ (Ecall, Act) ∷ []
 piece_of k Return = (Ret, Act) ∷ []
 
@@ -107,5 +108,6 @@ pub record IsImageOf (image : Image RvInstr) (program : First) : Type 0 where
   pub code : image.code ≡ map (λ x. x.0) (program_code program.functions)
   pub tags : image.tags ≡ map (λ x. x.1) (program_code program.functions)
   pub sites : image.sites ≡ sites_from 0 1 program.functions
+  pub routines : image.routines ≡ []
   pub entries : image.entries ≡ entries_from 1 program.functions
   pub frames : image.frames ≡ frames_of program.functions

@@ -1,10 +1,8 @@
 pub mod Layout
+pub mod Doubles
+pub mod Settings
 pub mod FirstAgree
 pub mod FirstLowers
 pub mod Code
-pub mod Sound
-pub mod Agree
-pub mod Lowers
-pub mod Rows
 pub mod FirstRows
 pub mod Alike

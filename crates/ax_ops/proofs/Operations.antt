@@ -1,8 +1,8 @@
 -- What an operation leaves is a value of the same width.
 use Rattle.std.proofs.Common.{ℕ, ◌^◌, ◌<◌, Bool, true, false, cond, arith}
 use Rattle.std.proofs.lemmas.Nat.{and_le_l, or_lt, xor_lt, pow_pos, mod_below}
-use Rattle.ax_ops.specs.declared.operation.RmwOp.{RmwOp}
-use Rattle.ax_ops.specs.declared.operation.RmwOp.TheVariants.{Xchg, Add, Sub, And, Nand, Or, Xor, Max, Min, UMax, UMin}
+use Rattle.ax_words.specs.declared.operation.RmwOp.{RmwOp}
+use Rattle.ax_words.specs.declared.operation.RmwOp.TheVariants.{Xchg, Add, Sub, And, Nand, Or, Xor, Max, Min, UMax, UMin}
 use Rattle.ax_ops.specs.Operation.{result_of}
 
 one_of : (choice : Bool) (a b bound : ℕ) → a < bound → b < bound → cond choice a b < bound

@@ -5,7 +5,7 @@ use Rattle.std.proofs.lemmas.Nat.{and_mask, and_le_l, or_lt, xor_lt, pow-add, po
 use Rattle.std.proofs.Math.Pow.{mod-mod-pow}
 use Rattle.std.proofs.Math.Nat.{add-mul-mod_self_right, pow-le-pow_right}
 use Rattle.std.proofs.Math.Seq.{drop-cons}
-use Rattle.ax_ops.specs.Width.{IsWidth}
+use Rattle.ax_words.specs.Width.{IsWidth}
 use Rattle.ax_ops.specs.Bytes.{number_of}
 
 -- a mask of n bytes leaves the number mod 2 ^ (8 * n)

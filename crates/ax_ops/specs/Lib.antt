@@ -1,5 +1,2 @@
-pub mod Width
-pub mod Orders
-pub mod Operation
 pub mod Bytes
-pub mod Routine
+pub mod Operation

@@ -1,21 +1,8 @@
 -- Read-modify-write operations on whole numbers below 2 ^ width, the width in bits
 -- (LLVM Language Reference, "atomicrmw").
-use Rattle.std.specs.Prelude.{List, codes, ℕ, ◌+◌, ◌-◌, ◌%◌, ◌^◌, ℤ, pos, ◌-ℤ◌, if◌then◌else◌, nat_lt, int_lt, bit_and, bit_or, bit_xor}
-use Rattle.ax_ops.specs.declared.operation.RmwOp.{RmwOp}
-use Rattle.ax_ops.specs.declared.operation.RmwOp.TheVariants.{Xchg, Add, Sub, And, Nand, Or, Xor, Max, Min, UMax, UMin}
-
-abbrev pub operation_word : RmwOp → List ℕ
-operation_word Xchg = codes "xchg"
-operation_word Add = codes "add"
-operation_word Sub = codes "sub"
-operation_word And = codes "and"
-operation_word Nand = codes "nand"
-operation_word Or = codes "or"
-operation_word Xor = codes "xor"
-operation_word Max = codes "max"
-operation_word Min = codes "min"
-operation_word UMax = codes "umax"
-operation_word UMin = codes "umin"
+use Rattle.std.specs.Prelude.{ℕ, ◌+◌, ◌-◌, ◌%◌, ◌^◌, ℤ, pos, ◌-ℤ◌, if◌then◌else◌, nat_lt, int_lt, bit_and, bit_or, bit_xor}
+use Rattle.ax_words.specs.declared.operation.RmwOp.{RmwOp}
+use Rattle.ax_words.specs.declared.operation.RmwOp.TheVariants.{Xchg, Add, Sub, And, Nand, Or, Xor, Max, Min, UMax, UMin}
 
 -- the two's complement number of this width
 abbrev pub signed : ℕ → ℕ → ℤ

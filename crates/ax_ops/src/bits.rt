@@ -2,7 +2,7 @@
 
 ghost use Rattle.std.specs.Prelude.{◌≡◌, ◌<◌, ◌*◌, ◌/◌, ◌-◌, ◌^◌, ◌%◌, ◌↔◌, pos, length, IsSome, IfSome};
 ghost use Rattle.num_traits.specs.Laws.{Checks};
-ghost use Rattle.ax_ops.specs.Width.{IsWidth};
+ghost use Rattle.ax_words.specs.Width.{IsWidth};
 ghost use Rattle.ax_ops.specs.Operation.{signed};
 ghost use Rattle.ax_ops.specs.Bytes.{number_of};
 
@@ -11,14 +11,14 @@ use num_traits::PrimInt;
 use std::marker::Model;
 
 /// A whole number of N bytes, where N is 1, 2, 4, 8 or 16.
-#[derive(Clone, Copy, Debug, PartialEq, Eq)]
+#[derive(Clone, Copy)]
 pub struct Bits<const N: usize> {
     number: u128,
 }
 
 impl<const N: usize> Model for Bits<N> {
     ghost use Rattle.std.specs.Prelude.{ℕ, ◌<◌, ◌*◌, ◌^◌};
-    ghost use Rattle.ax_ops.specs.Width.{IsWidth};
+    ghost use Rattle.ax_words.specs.Width.{IsWidth};
 
     ghost Value = { ℕ };
 

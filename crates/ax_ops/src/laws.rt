@@ -1,7 +1,7 @@
 //! What holds of operations on numbers of any width.
 
 ghost use Rattle.std.specs.Prelude.{ℕ, ◌<◌, ◌^◌};
-ghost use Rattle.ax_ops.specs.declared.operation.RmwOp.{RmwOp as Operation};
+ghost use Rattle.ax_words.specs.declared.operation.RmwOp.{RmwOp as Operation};
 ghost use Rattle.ax_ops.specs.Operation.{result_of};
 
 /// What an operation leaves is a number of its width, in bits, where the numbers that it takes are

@@ -1,77 +1,14 @@
-//! The read-modify-write operations of LLVM's `atomicrmw` on whole numbers.
+//! What the read-modify-write operations of LLVM's `atomicrmw` leave.
 
 ghost use Rattle.std.specs.Prelude.{◌≡◌, ◌<◌, ◌*◌, ◌^◌, ◌%◌};
-ghost use Rattle.ax_ops.specs.Width.{IsWidth};
-ghost use Rattle.ax_ops.specs.Operation.{operation_word, result_of, signed};
+ghost use Rattle.ax_words.specs.Width.{IsWidth};
+ghost use Rattle.ax_ops.specs.Operation.{result_of, signed};
 
 use crate::bits::{Bits, greatest};
-
-/// What a read-modify-write leaves in the object (LLVM Language Reference, `atomicrmw`).
-#[derive(Clone, Copy, Debug, PartialEq, Eq)]
-pub enum RmwOp {
-    Xchg,
-    Add,
-    Sub,
-    And,
-    Nand,
-    Or,
-    Xor,
-    Max,
-    Min,
-    UMax,
-    UMin,
-}
-
-/// The operations, each with its word in LLVM's text and what it leaves of the old value and its
-/// operand in words of 128 bits.
-macro_rules! operations {
-    ($column:ident $arguments:tt) => {
-        $column! { $arguments
-            (Xchg, "xchg", |old, v| v),
-            (Add, "add", |old, v| low::<N>(old.wrapping_add(v))),
-            (Sub, "sub", |old, v| low::<N>(old.wrapping_sub(v))),
-            (And, "and", |old, v| old & v),
-            (Nand, "nand", |old, v| greatest::<N>() - (old & v)),
-            (Or, "or", |old, v| old | v),
-            (Xor, "xor", |old, v| old ^ v),
-            (Max, "max", |old, v| if signed_number::<N>(old) < signed_number::<N>(v) { v } else { old }),
-            (Min, "min", |old, v| if signed_number::<N>(v) < signed_number::<N>(old) { v } else { old }),
-            (UMax, "umax", |old, v| old.max(v)),
-            (UMin, "umin", |old, v| old.min(v)),
-        }
-    };
-}
-
-macro_rules! result_by {
-    (($op:expr, $old:expr, $v:expr) $(($variant:ident, $word:literal, |$a:ident, $b:ident| $result:expr),)*) => {
-        match $op {
-            $(RmwOp::$variant => {
-                let $a = $old;
-                let $b = $v;
-                let _ = $a;
-                $result
-            })*
-        }
-    };
-}
-
-macro_rules! word_by {
-    (($op:expr) $(($variant:ident, $word:literal, |$a:ident, $b:ident| $result:expr),)*) => {
-        match $op { $(RmwOp::$variant => $word,)* }
-    };
-}
-
-impl RmwOp {
-    /// The operation's word in LLVM's text.
-    pub fn word(self) -> &'static str
-        ensures { result.now ≡ operation_word self }
-    {
-        operations!(word_by(self))
-    }
-}
+use ax_words::RmwOp;
 
 /// What the operation leaves where it found `old`, with the operand `v`. Sums wrap, and `Max` and
-/// `Min` compare two's complement numbers.
+/// `Min` compare two's complement numbers (LLVM Language Reference, `atomicrmw`).
 pub fn apply<const N: usize>(op: RmwOp, old: Bits<N>, v: Bits<N>) -> Bits<N>
     ensures value { result ≡ result_of (8 * N) op old.entry v.entry }
 {
@@ -86,7 +23,31 @@ fn apply_to<const N: usize>(op: RmwOp, old: u128, v: u128) -> u128
     ensures value { result ≡ result_of (8 * N) op old v }
     ensures fits { result < 2 ^ (8 * N) }
 {
-    operations!(result_by(op, old, v))
+    match op {
+        RmwOp::Xchg => v,
+        RmwOp::Add => low::<N>(old.wrapping_add(v)),
+        RmwOp::Sub => low::<N>(old.wrapping_sub(v)),
+        RmwOp::And => old & v,
+        RmwOp::Nand => greatest::<N>() - (old & v),
+        RmwOp::Or => old | v,
+        RmwOp::Xor => old ^ v,
+        RmwOp::Max => {
+            if signed_number::<N>(old) < signed_number::<N>(v) {
+                v
+            } else {
+                old
+            }
+        }
+        RmwOp::Min => {
+            if signed_number::<N>(v) < signed_number::<N>(old) {
+                v
+            } else {
+                old
+            }
+        }
+        RmwOp::UMax => old.max(v),
+        RmwOp::UMin => old.min(v),
+    }
 }
 
 /// The low bytes of a number.

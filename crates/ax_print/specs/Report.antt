@@ -1,10 +1,10 @@
 -- *Report* for RV64: what a run has put out, the objects, the processors, the locks and the events, a line each.
 use Rattle.std.specs.Prelude.{ℕ, ◌+◌, if◌then◌else◌, nat_eq, List, [], ◌∷◌, ◌++◌, length, map, codes, decimal, flat_map, slice_index}
-use Rattle.ax_ops.specs.declared.source.SourceEvent.{SourceEvent}
-use Rattle.ax_ir.specs.Names.{global_token}
+use Rattle.ax_words.specs.declared.source.SourceEvent.{SourceEvent}
+use Rattle.ax_module.specs.Names.{global_token}
 use Rattle.ax_isa.specs.declared.cpu.Status.{Status}
 use Rattle.ax_isa.specs.declared.cpu.Status.TheVariants.{Running, Ended, Trapped, Stuck}
-use Rattle.ax_isa.specs.declared.events.Event.{Event}
+use Rattle.ax_words.specs.declared.event.Event.{Event}
 use Rattle.ax_print.specs.Tokens.{source_token, machine_token}
 use Rattle.ax_print.specs.Lines.{lines_of}
 

@@ -1,8 +1,8 @@
 -- The token of an event: a letter, and the processor.
-use Rattle.ax_ops.specs.declared.source.SourceEvent.{SourceEvent}
-use Rattle.ax_ops.specs.declared.source.SourceEvent.TheVariants.{Act, Look, Miss, Drain}
-use Rattle.ax_isa.specs.declared.events.Event.{Event}
-use Rattle.ax_isa.specs.declared.events.Event.TheVariants.{Step, Drain as Flush, Drop}
+use Rattle.ax_words.specs.declared.source.SourceEvent.{SourceEvent}
+use Rattle.ax_words.specs.declared.source.SourceEvent.TheVariants.{Act, Look, Miss, Drain}
+use Rattle.ax_words.specs.declared.event.Event.{Event}
+use Rattle.ax_words.specs.declared.event.Event.TheVariants.{Step, Drain as Flush, Drop}
 use Rattle.ax_print.specs.declared.tokens.Token.{Token}
 
 -- A, L, M and D

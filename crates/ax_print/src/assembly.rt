@@ -1,12 +1,13 @@
 //! The assembly text of a program for RV64.
 
 ghost use Rattle.std.specs.Prelude.{◌≡◌, ◌<◌, ◌++◌, length, flat_map, All, IfOk, OnOk, string_bytes};
-ghost use Rattle.ax_print.specs.Assembly.{ending_text, sets_text, tag_text, access_text, instr_text, entry_line, entry_lines, site_line, instr_line, instr_lines, assembly_text};
+ghost use Rattle.ax_print.specs.Assembly.{tag_text, entry_line, entry_lines, site_line, register_text, role_text, routine_line, routine_numbered, routine_text, weak_text, instr_line, instr_lines, assembly_text};
 
-use crate::registers::register_name;
-use ax_isa::{SiteRange, Tag};
+use crate::instructions::push_instr;
+use ax_isa::{Role, RoutineRange, SiteRange, Tag};
 use ax_lower::{Lowered, Name};
-use ax_rv::{Ending, FenceSets, RvInstr};
+use ax_rv::RvInstr;
+use ax_words::RoutineName;
 use std::alloc::{AllocError, Global};
 
 /// The text of the program: its functions' entries, the ranges of its source instructions, and its
@@ -27,6 +28,7 @@ pub fn print(alloc: Global, l: &Lowered) -> Result<String, AllocError>
         image.frames.as_slice(),
     )?;
     push_sites(&mut out, image.sites.as_slice())?;
+    push_routines(&mut out, image.routines.as_slice())?;
     push_code(&mut out, image.code.as_slice(), image.tags.as_slice())?;
     writeln!(out, "# end")?;
     Ok(out)
@@ -76,97 +78,116 @@ fn push_sites(out: &mut String, sites: &[SiteRange]) -> Result<(), AllocError>
     Ok(())
 }
 
+fn routine_numbered(number: u32) -> Option<RoutineName>
+    ensures { result ≡ routine_numbered number }
+{
+    RoutineName::ALL
+        .iter()
+        .copied()
+        .find(|routine| routine.number() == number)
+}
+
+fn routine_word(number: u32) -> &'static str
+    ensures { result.now ≡ routine_text number }
+{
+    match routine_numbered(number) {
+        Some(routine) => routine.name(),
+        None => "",
+    }
+}
+
+fn push_routine(out: &mut String, range: &RoutineRange) -> Result<(), AllocError>
+    ensures { OnOk result (string_bytes out.new ≡ string_bytes out.old ++ routine_line range.now) }
+{
+    let RoutineRange {
+        routine,
+        first,
+        last,
+    } = *range;
+    let name = routine_word(routine);
+    writeln!(out, "# routine {name} {first} {last}")
+}
+
+fn push_routines(out: &mut String, routines: &[RoutineRange]) -> Result<(), AllocError>
+    ensures { OnOk result (string_bytes out.new ≡ string_bytes out.old ++ flat_map routine_line routines.now) }
+{
+    for range in routines {
+        push_routine(out, range)?;
+    }
+    Ok(())
+}
+
 fn push_code(out: &mut String, code: &[RvInstr], tags: &[Tag]) -> Result<(), AllocError>
     ensures { OnOk result (string_bytes out.new ≡ string_bytes out.old ++ instr_lines tags.now 0 code.now) }
 {
     for (k, instr) in code.iter().enumerate() {
         let tag = tags.get(k).copied().unwrap_or(Tag::Silent);
-        push_line(out, k + 1, instr, tag)?;
+        push_line(out, k as u64 + 1, instr, tag)?;
     }
     Ok(())
 }
 
-fn push_line(out: &mut String, place: usize, instr: &RvInstr, tag: Tag) -> Result<(), AllocError>
+fn push_line(out: &mut String, place: u64, instr: &RvInstr, tag: Tag) -> Result<(), AllocError>
     ensures { OnOk result (string_bytes out.new ≡ string_bytes out.old ++ instr_line place instr.now tag) }
 {
     write!(out, ".L{place}: ")?;
-    push_instr(out, instr)?;
-    let remark = tag_word(tag);
-    writeln!(out, "{remark}")
+    push_instr(out, place, instr)?;
+    push_tag(out, tag)?;
+    writeln!(out)
 }
 
-fn tag_word(tag: Tag) -> &'static str
-    ensures { result.now ≡ tag_text tag }
+fn push_tag(out: &mut String, tag: Tag) -> Result<(), AllocError>
+    ensures { OnOk result (string_bytes out.new ≡ string_bytes out.old ++ tag_text tag) }
 {
     match tag {
-        Tag::Silent => "",
-        Tag::Act => " # act",
-    }
-}
-
-fn push_instr(out: &mut String, instr: &RvInstr) -> Result<(), AllocError>
-    ensures { OnOk result (string_bytes out.new ≡ string_bytes out.old ++ instr_text instr.now) }
-{
-    match *instr {
-        RvInstr::Li { rd, n } => {
-            let rd = register_name(rd);
-            write!(out, "li {rd}, {n}")
-        }
-        RvInstr::Add { rd, rs1, rs2 } => {
-            let rd = register_name(rd);
-            let rs1 = register_name(rs1);
-            let rs2 = register_name(rs2);
-            write!(out, "add {rd}, {rs1}, {rs2}")
-        }
-        RvInstr::Ld { rd, d, rs1 } => push_access(out, "ld", rd, d, rs1),
-        RvInstr::Sd { rs2, d, rs1 } => push_access(out, "sd", rs2, d, rs1),
-        RvInstr::AmoAdd {
-            ending,
-            rd,
-            rs2,
-            rs1,
+        Tag::Silent => Ok(()),
+        Tag::Act => write!(out, " # act"),
+        Tag::Stored => write!(out, " # stored"),
+        Tag::Back => write!(out, " # back"),
+        Tag::StoredOrMiss => write!(out, " # miss"),
+        Tag::Linked {
+            weak,
+            expected,
+            mask,
         } => {
-            let ending = ending_word(ending);
-            let rd = register_name(rd);
-            let rs2 = register_name(rs2);
-            let rs1 = register_name(rs1);
-            write!(out, "amoadd.d{ending} {rd}, {rs2}, ({rs1})")
+            let weak = weak_word(weak);
+            write!(out, " # linked {weak} {expected} ")?;
+            push_register(out, mask)
         }
-        RvInstr::Fence(sets) => {
-            let sets = sets_word(sets);
-            write!(out, "fence {sets}")
+        Tag::Call(role) => {
+            let role = role_word(role);
+            write!(out, " # call {role}")
         }
-        RvInstr::Ret => write!(out, "ret"),
-        RvInstr::Ecall => write!(out, "ecall"),
+        Tag::Free { stored } => {
+            write!(out, " # free ")?;
+            push_register(out, stored)
+        }
     }
 }
 
-/// Appends a load or a store of register `r` at the displacement `d` from register `base`.
-fn push_access(out: &mut String, mnemonic: &str, r: u8, d: i16, base: u8) -> Result<(), AllocError>
-    ensures { OnOk result (string_bytes out.new ≡ string_bytes out.old ++ access_text mnemonic.now r d base) }
+fn weak_word(weak: bool) -> &'static str
+    ensures { result.now ≡ weak_text weak }
 {
-    let r = register_name(r);
-    let base = register_name(base);
-    write!(out, "{mnemonic} {r}, {d}({base})")
+    if weak { "weak" } else { "strong" }
 }
 
-fn ending_word(ending: Ending) -> &'static str
-    ensures { result.now ≡ ending_text ending }
+fn role_word(role: Role) -> &'static str
+    ensures { result.now ≡ role_text role }
 {
-    match ending {
-        Ending::Plain => "",
-        Ending::Acquire => ".aq",
-        Ending::Release => ".rl",
-        Ending::AcquireRelease => ".aqrl",
+    match role {
+        Role::None => "none",
+        Role::Whole => "whole",
+        Role::Probe => "probe",
+        Role::Compare => "compare",
     }
 }
 
-fn sets_word(sets: FenceSets) -> &'static str
-    ensures { result.now ≡ sets_text sets }
+/// Appends a register's number, or that there is none.
+fn push_register(out: &mut String, register: Option<u8>) -> Result<(), AllocError>
+    ensures { OnOk result (string_bytes out.new ≡ string_bytes out.old ++ register_text register) }
 {
-    match sets {
-        FenceSets::ReadBeforeAll => "r, rw",
-        FenceSets::AllBeforeWrite => "rw, w",
-        FenceSets::AllBeforeAll => "rw, rw",
+    match register {
+        Some(r) => write!(out, "{r}"),
+        None => write!(out, "-"),
     }
 }

@@ -2,7 +2,9 @@
 #![tactic(auto)]
 
 pub mod assembly;
+mod instructions;
 pub mod lines;
+mod mnemonics;
 pub mod registers;
 pub mod report;
 pub mod tokens;
@@ -12,6 +14,3 @@ pub use report::{
     push_end, push_head, push_held, push_lock, push_machine, push_object, push_output,
     push_outputs, push_processor, push_source,
 };
-
-#[cfg(test)]
-mod tests;

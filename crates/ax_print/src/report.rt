@@ -4,9 +4,9 @@ ghost use Rattle.std.specs.Prelude.{◌≡◌, ◌<◌, ◌++◌, flat_map, All,
 ghost use Rattle.ax_print.specs.Report.{head_lines, output_line, object_line, held_line, status_word, processor_line, lock_line, source_lines, machine_lines, end_line};
 
 use crate::lines::push_events;
-use ax_isa::{Event, Status};
+use ax_isa::Status;
 use ax_lower::Name;
-use ax_ops::SourceEvent;
+use ax_words::{Event, SourceEvent};
 use std::alloc::AllocError;
 
 /// Appends the first lines: the target, how many processors ran, and how many events there were.

@@ -1,10 +1,9 @@
 //! The tokens of the events in a report.
 
-use ax_isa::Event;
-use ax_ops::SourceEvent;
+use ax_words::{Event, SourceEvent};
 
 /// What a report shows of an event: a letter, and the processor, counted from 0.
-#[derive(Clone, Copy, Debug, PartialEq, Eq)]
+#[derive(Clone, Copy, PartialEq, Eq)]
 pub struct Token {
     pub letter: char,
     pub processor: u8,

@@ -1,17 +1,17 @@
 -- The blocks of a function's lines, and what its names stand for.
-use Rattle.std.proofs.Common.{◌≡◌, ℕ, zero, suc, ◌+◌, ◌%◌, ◌^◌, ◌≤◌, arith, Bool, true, false, cond, not, List, [], ◌∷◌, ◌++◌, length, take, flat_map, slice_get, Option, Some, None, is_none, refl, sym, ap, subst, ◌∙◌, one-add, append_assoc, true≢false}
+use Rattle.std.proofs.Common.{◌≡◌, ℕ, zero, suc, ◌+◌, ◌^◌, ◌≤◌, arith, Bool, true, false, cond, not, List, [], ◌∷◌, ◌++◌, length, take, flat_map, slice_get, Option, Some, None, is_none, refl, sym, ap, subst, ◌∙◌, one-add, append_assoc, true≢false}
 use Rattle.std.specs.List.{prefix_len}
 use Rattle.std.specs.Str.{bytes_eq}
 use Rattle.std.specs.Option.{option_map, option_to_list}
 use Rattle.std.proofs.lemmas.Bool.{false≢true, lt-ltb, or_parts}
 use Rattle.std.proofs.lemmas.List.{length-append}
 use Rattle.std.proofs.lemmas.Option.{same_Some}
-use Rattle.ax_ir.specs.declared.types.Ty.{Ty}
-use Rattle.ax_ir.specs.declared.inst.Inst.{Inst}
-use Rattle.ax_ir.specs.declared.module.Block.{Block}
-use Rattle.ax_ir.specs.Kinds.{is_phi, is_terminator, has_result}
-use Rattle.ax_ir.specs.WellFormed.{Scope, is_body, is_order, has_result_at}
-use Rattle.ax_lines.specs.declared.symbol.Span.{Span}
+use Rattle.ax_module.specs.declared.types.Ty.{Ty}
+use Rattle.ax_module.specs.declared.inst.Inst.{Inst}
+use Rattle.ax_module.specs.declared.module.Block.{Block}
+use Rattle.ax_module.specs.Kinds.{is_phi, is_terminator, has_result}
+use Rattle.ax_module.specs.WellFormed.{Scope, is_body, is_order, has_result_at}
+use Rattle.ax_symbols.specs.declared.symbol.Span.{Span}
 use Rattle.ax_lines.specs.declared.statement.Statement.{Statement}
 use Rattle.ax_lines.specs.declared.statement.Statement.TheVariants as statement
 use Rattle.ax_lines.specs.declared.statement.Line.{Line}
@@ -22,7 +22,7 @@ use Rattle.ax_lines.specs.Productions as lines
 use Rattle.ax_lines.specs.Productions.{place_after, place_behind}
 use Rattle.ax_scope.specs.declared.meaning.Meaning.{Meaning}
 use Rattle.ax_scope.specs.declared.meaning.Meaning.TheVariants as meaning
-use Rattle.ax_scope.specs.Scope.{look}
+use Rattle.ax_scope.specs.NameTable.{look}
 use Rattle.ax_scope.specs.Names.{is_inner, inside_of, maybe_at, declared, count_some, params_from, result_name, inst_count, results_from, block_name, first_behind, blocks_from}
 use Rattle.ax_scope.specs.Resolve.{Looks, inst_of}
 use Rattle.ax_scope.specs.Faults.{stated, again, outer_name, outer_fault, Body, body_fault, body_behind, local_names, body_begun, faults_from, AllFalse}
@@ -261,7 +261,7 @@ slice_get_at (j ∷ pre) i rest = slice_get_at pre i rest
 module _ (scope : Scope) (text : List ℕ) (x : Looks) where
   pub params_fit : (k : ℕ) (ps : List (Ty × Span)) → k + length ps ≤ scope.params → Each (Entry (IsValue scope)) (params_from text k ps)
   params_fit k [] h = tt
-  params_fit k (p ∷ ps) h = (lt-ltb k scope.params (omega (arith, h)), params_fit ((k + 1) % 2 ^ 32) ps (omega (arith, h)))
+  params_fit k (p ∷ ps) h = (lt-ltb k scope.params (omega (arith, h)), params_fit (k + 1) ps (omega (arith, h)))
 
   pub blocks_fit : (entry : List ℕ) (first : Bool) (k : ℕ) (ls : List Line) → k + block_count text entry first ls ≤ scope.blocks → Each (Entry (IsBlock scope)) (blocks_from text entry first k ls)
   blocks_fit entry first k [] h = tt

@@ -5,17 +5,17 @@ use Rattle.std.specs.List.{list_all, prefix_len}
 use Rattle.std.specs.Option.{option_to_list}
 use Rattle.std.proofs.lemmas.Bool.{or_parts, and_from, not_from_false, lt-ltb}
 use Rattle.std.proofs.lemmas.List.{length-map}
-use Rattle.ax_ir.specs.declared.types.Ty.{Ty}
-use Rattle.ax_ir.specs.declared.inst.Inst.{Inst}
-use Rattle.ax_ir.specs.declared.module.Block.{Block}
-use Rattle.ax_ir.specs.declared.module.Function.{Function}
-use Rattle.ax_ir.specs.declared.module.Module.{Module}
-use Rattle.ax_ir.specs.WellFormed.{Scope, IsModule, is_type, is_bit, is_result_type, is_nonempty, is_inst, is_order, is_block, is_function, is_function_name, scope_of, is_global}
-use Rattle.ax_ir.specs.Ranges.{is_in_range, is_inst_in_range, is_function_in_range, is_global_in_range}
-use Rattle.ax_lines.specs.declared.symbol.Span.{Span}
-use Rattle.ax_lines.specs.declared.symbol.Symbol.{Symbol}
-use Rattle.ax_lines.specs.declared.statement.Value.{Value}
-use Rattle.ax_lines.specs.declared.statement.Value.TheVariants as value
+use Rattle.ax_module.specs.declared.types.Ty.{Ty}
+use Rattle.ax_module.specs.declared.inst.Inst.{Inst}
+use Rattle.ax_module.specs.declared.module.Block.{Block}
+use Rattle.ax_module.specs.declared.module.Function.{Function}
+use Rattle.ax_module.specs.declared.module.Module.{Module}
+use Rattle.ax_module.specs.WellFormed.{Scope, IsModule, is_counted, is_type, is_bit, is_result_type, is_nonempty, is_inst, is_order, is_block, is_function, is_function_name, scope_of, is_global}
+use Rattle.ax_module.specs.Ranges.{is_in_range, is_inst_in_range, is_function_in_range, is_global_in_range}
+use Rattle.ax_symbols.specs.declared.symbol.Span.{Span}
+use Rattle.ax_symbols.specs.declared.symbol.Symbol.{Symbol}
+use Rattle.ax_symbols.specs.declared.values.Value.{Value}
+use Rattle.ax_symbols.specs.declared.values.Value.TheVariants as value
 use Rattle.ax_lines.specs.declared.statement.Line.{Line}
 use Rattle.ax_lines.specs.declared.statement.Line.TheVariants as line
 use Rattle.ax_lines.specs.declared.statement.Place.{Place}
@@ -23,7 +23,7 @@ use Rattle.ax_lines.specs.declared.statement.Place.TheVariants as place
 use Rattle.ax_lines.specs.Productions.{place_after}
 use Rattle.ax_lines.specs.Lines.{InPlace, lines_of}
 use Rattle.ax_scope.specs.declared.meaning.Meaning.{Meaning}
-use Rattle.ax_scope.specs.Scope.{look}
+use Rattle.ax_scope.specs.NameTable.{look}
 use Rattle.ax_scope.specs.Names.{text_at, is_inner, inside_of, entry_name, global_name, globals_from, params_from, results_from, values_of, blocks_of}
 use Rattle.ax_scope.specs.Resolve.{Looks}
 use Rattle.ax_scope.specs.Faults.{Body, again, outer_name, param_names, is_reserved, outer_fault, inner_fault, looks_of, body_of, body_begun, function_behind, faults_from, AllFalse, stated}
@@ -172,8 +172,8 @@ module _ (text : List ℕ) (globals : List ℕ → Option Meaning) (n : ℕ) (kn
       (and_from _ _ this.0 more.0, and_from _ _ this.1 more.1)
   functions_good p names function (l ∷ ls) c s h = functions_good (place_after p l) (names ++ option_to_list (outer_name text l)) (function_behind text globals function l ls) ls c.1 s.1 h.1
 
-formed : (text : List ℕ) (ls : List Line) → ChainTo place.Outside ls place.Outside → Each (SoundLine text) ls → AllFalse (faults_from text (look (globals_from text 0 ls)) [] None ls) → IsModule (module_of text ls)
-formed text ls c s h =
+formed : (text : List ℕ) (ls : List Line) → ChainTo place.Outside ls place.Outside → Each (SoundLine text) ls → AllFalse (faults_from text (look (globals_from text 0 ls)) [] None ls) → is_counted (module_of text ls) ≡ true → IsModule (module_of text ls)
+formed text ls c s h counts =
     let globals : List ℕ → Option Meaning = look (globals_from text 0 ls) in
     let n : ℕ = length (globals_in text ls) in
     let known : (scope : Scope) → n ≤ scope.globals → (name : List ℕ) (m : Meaning) → globals name ≡ Some m → IsGlobal scope m =
@@ -181,12 +181,12 @@ formed text ls c s h =
     let fs = functions_good text globals n known place.Outside [] None ls c s h in
     let gs = globals_good text ls s in
     let d = differ text globals [] None ls h in
-    record { formed = and_from _ _ (and_from _ _ d.1 gs.0) fs.0; numbers = and_from _ _ gs.1 fs.1 }
+    record { formed = and_from _ _ (and_from _ _ d.1 gs.0) fs.0; numbers = and_from _ _ gs.1 fs.1; counts = counts }
 
 pub derived_module : (text : List ℕ) (m : Module) → Derives text m → IsModule m
 derived_module text m d =
     let s = said_lines text place.Outside (lines_of text d.says.tokens) d.stated place.Outside d.says.are_lines (lines_sound text d.says.tokens d.says.are_tokens) in
-    subst IsModule (sym d.is) (formed text d.stated s.0 s.1 d.names)
+    subst IsModule (sym d.is) (formed text d.stated s.0 s.1 d.names (subst (λ (x : Module). is_counted x ≡ true) d.is d.counts))
 
 pub all_well_formed : (text : List ℕ) (r : Result Module ReadFault) → IfOk r (λ m. Derives text m) → IfOk r IsModule
 all_well_formed text (Ok m) d = derived_module text m d

@@ -2,17 +2,17 @@
 use Rattle.std.proofs.Common.{◌≡◌, ℕ, zero, suc, ◌-◌, ◌^◌, ◌≤◌, arith, Bool, true, false, cond, pos, List, Option, Some, None, refl, subst, nat_lt, nat_le}
 use Rattle.std.proofs.lemmas.Option.{same_Some}
 use Rattle.std.proofs.lemmas.Bool.{ltb-false, leb-true, le-leb, and_from}
-use Rattle.ax_ir.specs.declared.types.Ty.{Ty}
-use Rattle.ax_ir.specs.declared.types.Ty.TheVariants as ty
-use Rattle.ax_ir.specs.declared.operand.Operand.TheVariants as operand
-use Rattle.ax_ir.specs.WellFormed.{is_type, is_result_type, is_nonempty, is_callee_name}
-use Rattle.ax_ir.specs.Ranges.{is_word, is_stated_word, is_in_range}
-use Rattle.ax_lines.specs.declared.symbol.Sign.{Sign}
-use Rattle.ax_lines.specs.declared.symbol.Sign.TheVariants as sign
-use Rattle.ax_lines.specs.declared.symbol.Word.TheVariants as word
-use Rattle.ax_lines.specs.declared.symbol.Span.{Span}
-use Rattle.ax_lines.specs.declared.statement.Value.{Value}
-use Rattle.ax_lines.specs.declared.statement.Value.TheVariants as value
+use Rattle.ax_module.specs.declared.types.Ty.{Ty}
+use Rattle.ax_module.specs.declared.types.Ty.TheVariants as ty
+use Rattle.ax_module.specs.declared.operand.Operand.TheVariants as operand
+use Rattle.ax_module.specs.WellFormed.{is_type, is_result_type, is_nonempty, is_callee_name}
+use Rattle.ax_module.specs.Ranges.{is_word, is_stated_word, is_in_range}
+use Rattle.ax_symbols.specs.declared.symbol.Sign.{Sign}
+use Rattle.ax_symbols.specs.declared.symbol.Sign.TheVariants as sign
+use Rattle.ax_symbols.specs.declared.vocabulary.Word.TheVariants as word
+use Rattle.ax_symbols.specs.declared.symbol.Span.{Span}
+use Rattle.ax_symbols.specs.declared.values.Value.{Value}
+use Rattle.ax_symbols.specs.declared.values.Value.TheVariants as value
 use Rattle.ax_lines.specs.declared.statement.Path.{Path}
 use Rattle.ax_lines.specs.declared.statement.Pointer.{Pointer}
 use Rattle.ax_lines.specs.declared.statement.Pointer.TheVariants as pointer
@@ -20,8 +20,8 @@ use Rattle.ax_lines.specs.declared.statement.Argument.{Argument}
 use Rattle.ax_lines.specs.declared.statement.Argument.TheVariants as argument
 use Rattle.ax_lines.specs.declared.statement.Statement.{Statement}
 use Rattle.ax_lines.specs.declared.statement.Statement.TheVariants as statement
-use Rattle.ax_lines.specs.Pieces.{count_of, count_in, const_of, const_in, number_value, minus, value_of, value_in, part_in}
-use Rattle.ax_lines.specs.Grammar.{one}
+use Rattle.ax_symbols.specs.Pieces.{count_of, count_in, const_of, const_in, number_value, minus, value_of, value_in, part_in}
+use Rattle.ax_symbols.specs.Grammar.{one}
 use Rattle.ax_lines.specs.Productions.{maybe, alignment, stated_alignment, typed_value, result_type, elements, count_or, first_index, path, pointer_behind, pointer_operand, binary, comparison, selection, conversion, incoming, phi, alloca, getelementptr, atomic_load, plain_load, exchange, modification, extraction, atomic_store, plain_store, fence, jump, branch, return_void, return_value, unreachable_line, is_phi}
 use Rattle.ax_scope.specs.Names.{text_at}
 use Rattle.ax_read.proofs.Grants.{Each, SoundSign, Grants, ◌>>=◌, ◌>>◌, granted, signs_pass, one_is, one_pass, passed_pass, option_is, tail_pass, list_is, typed_is}

@@ -5,20 +5,20 @@ use Rattle.std.specs.List.{list_all}
 use Rattle.std.proofs.lemmas.List.{length-map}
 use Rattle.std.proofs.lemmas.Option.{same_Some}
 use Rattle.std.proofs.lemmas.Bool.{and_from, or_right, not_from_false, false≢true, lt-leb, le-leb, ne_eqb}
-use Rattle.ax_ir.specs.declared.types.Ty.{Ty}
-use Rattle.ax_ir.specs.declared.types.Ty.TheVariants as ty
-use Rattle.ax_ir.specs.Types.{whole_number_type}
-use Rattle.ax_ir.specs.Names.{is_name}
-use Rattle.ax_ir.specs.WellFormed.{is_type, is_result_type, is_callee_name, is_global_name, is_constant, is_init, is_zero}
-use Rattle.ax_ir.specs.Ranges.{is_word, is_stated_word}
-use Rattle.ax_lines.specs.declared.symbol.Sign.{Sign}
-use Rattle.ax_lines.specs.declared.symbol.Sign.TheVariants as sign
-use Rattle.ax_lines.specs.declared.symbol.Word.TheVariants as word
-use Rattle.ax_lines.specs.declared.symbol.Punctuation.TheVariants as mark
-use Rattle.ax_lines.specs.declared.symbol.Span.{Span}
-use Rattle.ax_lines.specs.declared.symbol.Symbol.{Symbol}
-use Rattle.ax_lines.specs.declared.statement.Value.{Value}
-use Rattle.ax_lines.specs.declared.statement.Value.TheVariants as value
+use Rattle.ax_module.specs.declared.types.Ty.{Ty}
+use Rattle.ax_module.specs.declared.types.Ty.TheVariants as ty
+use Rattle.ax_module.specs.Types.{whole_number_type}
+use Rattle.ax_module.specs.Names.{is_name}
+use Rattle.ax_module.specs.WellFormed.{is_type, is_result_type, is_callee_name, is_global_name, is_constant, is_init, is_zero}
+use Rattle.ax_module.specs.Ranges.{is_word, is_stated_word}
+use Rattle.ax_symbols.specs.declared.symbol.Sign.{Sign}
+use Rattle.ax_symbols.specs.declared.symbol.Sign.TheVariants as sign
+use Rattle.ax_symbols.specs.declared.vocabulary.Word.TheVariants as word
+use Rattle.ax_symbols.specs.declared.symbol.Punctuation.TheVariants as mark
+use Rattle.ax_symbols.specs.declared.symbol.Span.{Span}
+use Rattle.ax_symbols.specs.declared.symbol.Symbol.{Symbol}
+use Rattle.ax_symbols.specs.declared.values.Value.{Value}
+use Rattle.ax_symbols.specs.declared.values.Value.TheVariants as value
 use Rattle.ax_lines.specs.declared.statement.Argument.{Argument}
 use Rattle.ax_lines.specs.declared.statement.Argument.TheVariants as argument
 use Rattle.ax_lines.specs.declared.statement.Statement.{Statement}
@@ -27,8 +27,8 @@ use Rattle.ax_lines.specs.declared.statement.Line.{Line}
 use Rattle.ax_lines.specs.declared.statement.Line.TheVariants as line
 use Rattle.ax_lines.specs.declared.statement.Place.{Place}
 use Rattle.ax_lines.specs.declared.statement.Place.TheVariants as place
-use Rattle.ax_lines.specs.Pieces.{sign_at, one_at, simple_type, simple_type_of, closed, is_greater, opens_vector, type_at, global_in, callee_in, value_in}
-use Rattle.ax_lines.specs.Grammar.{Grammar, then, one, typed, option, by, Splits, Derives}
+use Rattle.ax_symbols.specs.Pieces.{sign_at, one_at, simple_type, simple_type_of, closed, is_greater, opens_vector, type_at, global_in, callee_in, value_in}
+use Rattle.ax_symbols.specs.Grammar.{Grammar, then, one, typed, option, by, Splits, Derives}
 use Rattle.ax_lines.specs.Productions as p
 use Rattle.ax_lines.specs.Productions.{count_or, kept, element, initial, global_line, parameter, items_at, items_in, define_line, begins_pointer, pointer_argument, value_argument, call_argument, call_states, may_have, call, states, load_line, store_line, leave_line, return_line, phi_line, valued, unnamed, result_name, named, blank, passed_line, label_line, close_line, outside, is_label, in_block, at_start, named_call, between, behind_block, line_at, is_phi}
 use Rattle.ax_scope.specs.Names.{text_at}

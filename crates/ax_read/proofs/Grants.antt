@@ -2,19 +2,19 @@
 use Rattle.std.proofs.Common.{◌≡◌, ℕ, zero, suc, pred, ◌^◌, Bool, true, false, cond, List, [], ◌∷◌, ◌++◌, Option, Some, None, refl, sym, ap, subst, ◌∙◌, inl, inr, nat_lt, ◌==◌, codes}
 use Rattle.std.specs.Option.{option_map}
 use Rattle.std.proofs.lemmas.Option.{same_Some}
-use Rattle.ax_ir.specs.declared.types.Ty.{Ty}
-use Rattle.ax_ir.specs.declared.types.Ty.TheVariants as ty
-use Rattle.ax_ir.specs.Types.{whole_number_type}
-use Rattle.ax_ir.specs.Names.{is_name}
-use Rattle.ax_ir.specs.WellFormed.{begins_with, is_type, is_nonempty}
-use Rattle.ax_lines.specs.declared.symbol.Sign.{Sign}
-use Rattle.ax_lines.specs.declared.symbol.Sign.TheVariants as sign
-use Rattle.ax_lines.specs.declared.symbol.Word.TheVariants as word
-use Rattle.ax_lines.specs.declared.symbol.Symbol.{Symbol}
-use Rattle.ax_lines.specs.declared.pass.Pass.{Pass}
-use Rattle.ax_lines.specs.Pieces.{strip, one_at, sign_at, item_len, is_nought, behind_items, simple_type, simple_type_of, closed, is_greater, opens_vector, type_at}
-use Rattle.ax_lines.specs.Grammar.{Grammar, gives, then, signs, one, passed, typed, when, option, by, list, tail, ends, whole, none, comma, Listed, last, more, Derives}
-use Rattle.ax_lines.proofs.Exact.{strip_splits}
+use Rattle.ax_module.specs.declared.types.Ty.{Ty}
+use Rattle.ax_module.specs.declared.types.Ty.TheVariants as ty
+use Rattle.ax_module.specs.Types.{whole_number_type}
+use Rattle.ax_module.specs.Names.{is_name}
+use Rattle.ax_module.specs.WellFormed.{begins_with, is_type, is_nonempty}
+use Rattle.ax_symbols.specs.declared.symbol.Sign.{Sign}
+use Rattle.ax_symbols.specs.declared.symbol.Sign.TheVariants as sign
+use Rattle.ax_symbols.specs.declared.vocabulary.Word.TheVariants as word
+use Rattle.ax_symbols.specs.declared.symbol.Symbol.{Symbol}
+use Rattle.ax_symbols.specs.declared.pass.Pass.{Pass}
+use Rattle.ax_symbols.specs.Pieces.{strip, one_at, sign_at, item_len, is_nought, behind_items, simple_type, simple_type_of, closed, is_greater, opens_vector, type_at}
+use Rattle.ax_symbols.specs.Grammar.{Grammar, gives, then, signs, one, passed, typed, when, option, by, list, tail, ends, whole, none, comma, Listed, last, more, Derives}
+use Rattle.ax_symbols.proofs.Exact.{strip_splits}
 use Rattle.ax_scope.specs.Names.{text_at}
 
 abbrev pub Each : {A : Type 0} → (A → Type 0) → List A → Type 0

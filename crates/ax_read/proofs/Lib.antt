@@ -7,3 +7,4 @@ pub mod Meant
 pub mod SoundTokens
 pub mod Built
 pub mod NamesDiffer
+pub mod Answered

@@ -3,24 +3,24 @@ use Rattle.std.proofs.Common.{◌≡◌, ℕ, ◌+◌, ◌^◌, ◌/◌, arith, 
 use Rattle.std.specs.List.{list_all}
 use Rattle.std.proofs.lemmas.Bool.{and_parts, ltb-true, lt-ltb}
 use Rattle.std.proofs.lemmas.Option.{same_Some}
-use Rattle.ax_ir.specs.declared.types.Ty.{Ty}
-use Rattle.ax_ir.specs.declared.types.Ty.TheVariants as ty
-use Rattle.ax_ir.specs.declared.operand.Operand.{Operand}
-use Rattle.ax_ir.specs.declared.operand.Operand.TheVariants as operand
-use Rattle.ax_ir.specs.declared.operand.Addr.{Addr}
-use Rattle.ax_ir.specs.declared.operand.Arg.{Arg}
-use Rattle.ax_ir.specs.declared.operand.Arg.TheVariants as arg
-use Rattle.ax_ir.specs.declared.inst.Inst.{Inst}
-use Rattle.ax_ir.specs.declared.inst.Inst.TheVariants as inst
-use Rattle.ax_ir.specs.Types.{type_bytes}
-use Rattle.ax_ir.specs.Kinds.{is_phi, is_terminator, has_result}
-use Rattle.ax_ir.specs.WellFormed.{Scope, is_type, is_value, is_operand, is_base, is_addr, is_arg, is_entry, is_nonempty, is_inst}
-use Rattle.ax_ir.specs.Ranges.{is_word, is_stated_word, is_in_range, is_addr_in_range, is_arg_in_range, is_inst_in_range}
-use Rattle.ax_lines.specs.declared.symbol.Span.{Span}
-use Rattle.ax_lines.specs.declared.statement.Value.{Value}
-use Rattle.ax_lines.specs.declared.statement.Value.TheVariants as value
-use Rattle.ax_lines.specs.declared.statement.Base.{Base as NamedBase}
-use Rattle.ax_lines.specs.declared.statement.Base.TheVariants as named
+use Rattle.ax_module.specs.declared.types.Ty.{Ty}
+use Rattle.ax_module.specs.declared.types.Ty.TheVariants as ty
+use Rattle.ax_module.specs.declared.operand.Operand.{Operand}
+use Rattle.ax_module.specs.declared.operand.Operand.TheVariants as operand
+use Rattle.ax_module.specs.declared.operand.Addr.{Addr}
+use Rattle.ax_module.specs.declared.operand.Arg.{Arg}
+use Rattle.ax_module.specs.declared.operand.Arg.TheVariants as arg
+use Rattle.ax_module.specs.declared.inst.Inst.{Inst}
+use Rattle.ax_module.specs.declared.inst.Inst.TheVariants as inst
+use Rattle.ax_module.specs.Types.{type_bytes}
+use Rattle.ax_module.specs.Kinds.{is_phi, is_terminator, has_result}
+use Rattle.ax_module.specs.WellFormed.{Scope, is_type, is_value, is_operand, is_base, is_addr, is_arg, is_entry, is_nonempty, is_inst}
+use Rattle.ax_module.specs.Ranges.{is_word, is_stated_word, is_in_range, is_addr_in_range, is_arg_in_range, is_inst_in_range}
+use Rattle.ax_symbols.specs.declared.symbol.Span.{Span}
+use Rattle.ax_symbols.specs.declared.values.Value.{Value}
+use Rattle.ax_symbols.specs.declared.values.Value.TheVariants as value
+use Rattle.ax_symbols.specs.declared.values.Base.{Base as NamedBase}
+use Rattle.ax_symbols.specs.declared.values.Base.TheVariants as named
 use Rattle.ax_lines.specs.declared.statement.Pointer.{Pointer}
 use Rattle.ax_lines.specs.declared.statement.Pointer.TheVariants as pointer
 use Rattle.ax_lines.specs.declared.statement.Argument.{Argument}

@@ -5,13 +5,13 @@ use Rattle.std.specs.Str.{bytes_eq}
 use Rattle.std.proofs.lemmas.List.{append-nil}
 use Rattle.std.proofs.lemmas.Bool.{or_parts, or_from, and_parts, and_from, not_from_false, not-true, false_from_ne_true}
 use Rattle.std.proofs.lemmas.Slice.Eq.{bytes_eq-Decides}
-use Rattle.ax_ir.specs.declared.module.Global.{Global}
-use Rattle.ax_ir.specs.declared.module.Function.{Function}
-use Rattle.ax_ir.specs.WellFormed.{all_differ}
+use Rattle.ax_module.specs.declared.module.Global.{Global}
+use Rattle.ax_module.specs.declared.module.Function.{Function}
+use Rattle.ax_module.specs.WellFormed.{all_differ}
 use Rattle.ax_lines.specs.declared.statement.Line.{Line}
 use Rattle.ax_lines.specs.declared.statement.Line.TheVariants as line
 use Rattle.ax_scope.specs.declared.meaning.Meaning.{Meaning}
-use Rattle.ax_scope.specs.Scope.{is_among}
+use Rattle.ax_scope.specs.NameTable.{is_among}
 use Rattle.ax_scope.specs.Names.{text_at}
 use Rattle.ax_scope.specs.Faults.{Body, again, outer_name, param_names, is_reserved, outer_fault, inner_fault, function_behind, faults_from, AllFalse}
 use Rattle.ax_scope.specs.Module.{global_at, globals_in, function_at, functions_in}

@@ -4,7 +4,7 @@ use Rattle.std.specs.List.{list_all, slice_split, onto_first, starts_with}
 use Rattle.std.proofs.lemmas.List.{drop-take, take-take, drop-drop, length-drop, length-take-le, take_all}
 use Rattle.std.proofs.lemmas.Option.{same_Some}
 use Rattle.std.proofs.lemmas.Bool.{and_parts, and_from, leb-true, le-leb, lt-ltb, eqb-true, ne_eqb, not_from_false, false≢true}
-use Rattle.ax_ir.specs.Names.{is_name, is_printable}
+use Rattle.ax_module.specs.Names.{is_name, is_printable}
 use Rattle.ax_lex.specs.declared.token.Token.{Token}
 use Rattle.ax_lex.specs.declared.token.TokenKind.{TokenKind}
 use Rattle.ax_lex.specs.declared.token.TokenKind.TheVariants as kind
@@ -13,10 +13,11 @@ use Rattle.ax_lex.specs.declared.bytes.Start.TheVariants as start
 use Rattle.ax_lex.specs.Bytes.{is_name_byte, is_text_byte, is_digit, start_of}
 use Rattle.ax_lex.specs.Tokens as lex
 use Rattle.ax_lex.specs.Tokens.{some_all, is_closed, is_quoted, goes_on, is_token, IsNext, TokensTo, AreTokens}
-use Rattle.ax_lines.specs.declared.symbol.Sign.{Sign}
-use Rattle.ax_lines.specs.declared.symbol.Sign.TheVariants as sign
-use Rattle.ax_lines.specs.declared.symbol.Symbol.{Symbol}
-use Rattle.ax_lines.specs.Symbols.{number_from, number_of, number_or_odd, literal_sign, width_of, int_or_word, sides, sides_of, within, name_of, span_of, global_sign, text_sign, mark_sign, symbol_of, is_feed}
+use Rattle.ax_symbols.specs.declared.symbol.Sign.{Sign}
+use Rattle.ax_symbols.specs.declared.symbol.Sign.TheVariants as sign
+use Rattle.ax_symbols.specs.declared.symbol.Symbol.{Symbol}
+use Rattle.ax_lex.specs.Numbers.{number_from, number_of}
+use Rattle.ax_symbols.specs.Symbols.{number_or_odd, literal_sign, width_of, int_or_word, sides, sides_of, within, name_of, span_of, global_sign, text_sign, mark_sign, symbol_of, is_feed}
 use Rattle.ax_lines.specs.Lines.{lines_of}
 use Rattle.ax_scope.specs.Names.{text_at}
 use Rattle.ax_read.proofs.Grants.{Each, SoundSign, IsSound}

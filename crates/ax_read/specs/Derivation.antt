@@ -1,6 +1,7 @@
 -- The module that a text derives, and the fault of a text that derives none.
-use Rattle.std.specs.Prelude.{◌≡◌, ℕ, ◌+◌, List, take, ◌⊎◌, ◌==◌, count_by}
-use Rattle.ax_ir.specs.declared.module.Module.{Module}
+use Rattle.std.specs.Prelude.{◌≡◌, ℕ, ◌+◌, List, take, ◌⊎◌, ◌==◌, count_by, IsTrue}
+use Rattle.ax_module.specs.declared.module.Module.{Module}
+use Rattle.ax_module.specs.WellFormed.{is_counted}
 use Rattle.ax_lex.specs.declared.token.Token.{Token}
 use Rattle.ax_lex.specs.Tokens.{AreTokens, IsFirstBad}
 use Rattle.ax_lines.specs.declared.statement.Line.{Line}
@@ -16,12 +17,13 @@ pub record Says (text : List ℕ) (stated : List Line) : Type 0 where
   pub are_tokens : AreTokens text tokens
   pub are_lines : AreLines (lines_of text tokens) stated
 
--- The text derives the module.
+-- The text derives the module, whose counts have 32 bits as all numbers that name something.
 pub record Derives (text : List ℕ) (m : Module) : Type 0 where
   pub stated : List Line
   pub says : Says text stated
   pub names : NamesFit text stated
   pub is : m ≡ module_of text stated
+  pub counts : IsTrue (is_counted m)
 
 -- the line of a place of the text, counted from 1
 abbrev pub line_at : List ℕ → ℕ → ℕ
@@ -50,7 +52,21 @@ pub record IsNamesFault (text : List ℕ) (line : ℕ) : Type 0 where
   pub says : Says text stated
   pub is : IsNameFault text stated line
 
--- Which fault it is: bytes come first, then lines, then names.
+-- The text has this fault: bytes come first, then lines, then names.
+abbrev pub HasFault : List ℕ → ReadFault → Type 0
+HasFault text (Syntax line) = IsByteFault text line ⊎ IsSyntaxFault text line
+HasFault text (Opcode line) = IsOpcodeFault text line
+HasFault text (Name line) = IsNamesFault text line
+HasFault text Memory = ⊥
+
+-- No fault but this one, or want of memory.
+abbrev pub IsOrMemory : ReadFault → ReadFault → Type 0
+IsOrMemory fault (Syntax line) = Syntax line ≡ fault
+IsOrMemory fault (Opcode line) = Opcode line ≡ fault
+IsOrMemory fault (Name line) = Name line ≡ fault
+IsOrMemory fault Memory = Unit {0}
+
+-- What a fault that is answered says of the text.
 abbrev pub IsReadFault : List ℕ → ReadFault → Type 0
 IsReadFault text (Syntax line) = IsByteFault text line ⊎ IsSyntaxFault text line
 IsReadFault text (Opcode line) = IsOpcodeFault text line

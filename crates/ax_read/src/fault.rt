@@ -6,7 +6,7 @@ use thiserror::Error;
 ///
 /// A byte that starts no token comes before any other fault, and a line that is no production in
 /// its place before a fault of names.
-#[derive(Clone, Copy, Debug, PartialEq, Eq, Error)]
+#[derive(Clone, Copy, Debug, Error)]
 pub enum ReadFault {
     /// The line has a byte that starts no token, or is no production in its place, or is the last
     /// line of a text that ends in a function.

@@ -1,18 +1,19 @@
 //! Modules from their texts.
 
 ghost use Rattle.std.specs.Prelude.{◌≡◌, ◌<◌, ◌≤◌, ◌+◌, ◌-◌, ◌^◌, ◌==◌, ℕ, List, length, take, count_by, MatchResult, IfOk};
-ghost use Rattle.ax_ir.specs.declared.module.Module.{Module};
-ghost use Rattle.ax_ir.specs.WellFormed.{IsModule};
+ghost use Rattle.ax_module.specs.declared.module.Module.{Module};
+ghost use Rattle.ax_module.specs.WellFormed.{IsModule};
 ghost use Rattle.ax_lex.specs.Tokens.{AreTokens};
 ghost use Rattle.ax_lines.specs.Lines.{lines_of};
 ghost use Rattle.ax_lines.specs.Faults.{IsLineFault, FaultWithin};
-ghost use Rattle.ax_read.specs.Derivation.{Says, Derives, IsReadFault, line_at};
+ghost use Rattle.ax_read.specs.declared.fault.ReadFault.{ReadFault};
+ghost use Rattle.ax_read.specs.Derivation.{Says, Derives, HasFault, IsOrMemory, IsReadFault, line_at};
 ghost use Rattle.ax_read.specs.Reads.{TokensRead, LinesRead, ModuleRead};
 
 use crate::fault::ReadFault;
-use ax_ir::Module;
 use ax_lex::{LexFault, Token, tokens};
 use ax_lines::{Line, LineFault, read_lines};
+use ax_module::Module;
 use ax_scope::{ScopeFault, module_of};
 use std::alloc::Global;
 
@@ -48,6 +49,7 @@ fn tokens_of(alloc: Global, text: &[u8]) -> Result<Vec<Token>, ReadFault>
 }
 
 /// What the lines of the text state, or the first that is no production in its place.
+#[tactic(auto, using(crate::proofs::Derived::params_below))]
 fn stated_in(alloc: Global, text: &[u8]) -> Result<Vec<Line>, ReadFault>
     requires { length text.now < 2 ^ 32 - 1 }
     ensures { LinesRead text.now result }
@@ -79,14 +81,16 @@ fn read_once(alloc: Global, text: &[u8]) -> Result<Module, ReadFault>
 ///
 /// # Errors
 ///
-/// Where the text derives no module, the fault that comes first in the order of `ReadFault`, with
-/// its line; or want of memory.
+/// Where the text derives no module, the one fault that it has, which comes first in the order of
+/// `ReadFault`, with its line; or want of memory.
 pub fn read(alloc: Global, text: &[u8]) -> Result<Module, ReadFault>
     requires { length text.now < 2 ^ 32 - 1 }
     // The text derives what is answered.
     ensures found { IfOk result (λ m. Derives text.now m) }
     // What the text derives is answered, unless memory runs out.
     ensures only { (m : Module) → Derives text.now m → MatchResult result (λ r. r ≡ m) (λ e. e ≡ ReadFault.Memory) }
+    // The fault that the text has is answered, unless memory runs out.
+    ensures faulty { (fault : ReadFault) → HasFault text.now fault → MatchResult result (λ _. ⊥) (IsOrMemory fault) }
     // What is answered is well formed.
     ensures well_formed { IfOk result IsModule }
     // Which fault it is.

@@ -3,9 +3,9 @@ use Rattle.std.proofs.Common.{◌≡◌, ℕ, ◌^◌, ◌≤◌, ◌<◌, ◌-�
 use Rattle.std.specs.Prelude.{nat_lt}
 use Rattle.std.proofs.Math.Nat.{pow-le-pow_right}
 use Rattle.std.proofs.lemmas.Bool.Decides.{nat_tests}
-use Rattle.ax_ir.specs.declared.operand.Operand.{Operand}
-use Rattle.ax_ir.specs.declared.operand.Operand.TheVariants.{Const, Wide, Value, Param}
-use Rattle.ax_ir.specs.Ranges.{is_in_range}
+use Rattle.ax_module.specs.declared.operand.Operand.{Operand}
+use Rattle.ax_module.specs.declared.operand.Operand.TheVariants.{Const, Wide, Value, Param}
+use Rattle.ax_module.specs.Ranges.{is_in_range}
 use Rattle.ax_rules.specs.Constants.{fits_bits}
 
 below : (n a b : ℕ) → n < 2 ^ a → a ≤ b → nat_lt n (2 ^ b) ≡ true

@@ -1,10 +1,10 @@
 -- Constants: those that a type has, and which element a constant index names.
 use Rattle.std.specs.Prelude.{ℕ, ◌-◌, ◌%◌, ◌^◌, Bool, true, false, nat_eq, nat_lt, if◌then◌else◌, pos, negsuc, Option, Some, None}
-use Rattle.ax_ir.specs.declared.operand.Operand.{Operand}
-use Rattle.ax_ir.specs.declared.operand.Operand.TheVariants as operand
-use Rattle.ax_ir.specs.declared.types.Ty.{Ty}
-use Rattle.ax_ir.specs.declared.types.Ty.TheVariants.{I1, I8, I16, I32, I64, I128, Int}
-use Rattle.ax_layout.specs.SourceValues.{index_of, type_bits, wrapped}
+use Rattle.ax_module.specs.declared.operand.Operand.{Operand}
+use Rattle.ax_module.specs.declared.operand.Operand.TheVariants as operand
+use Rattle.ax_module.specs.declared.types.Ty.{Ty}
+use Rattle.ax_module.specs.declared.types.Ty.TheVariants.{I1, I8, I16, I32, I64, I128, Int}
+use Rattle.ax_source_run.specs.SourceValues.{index_of, type_bits, wrapped}
 
 abbrev pub is_integer : Ty → Bool
 is_integer I1 = true

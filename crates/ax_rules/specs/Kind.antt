@@ -1,13 +1,13 @@
 -- N2 Kind.
 use Rattle.std.specs.Prelude.{ℕ, Bool, true, false, not, ◌&&◌, ◌||◌, Option, Some, None}
 use Rattle.std.specs.List.{list_any}
-use Rattle.ax_ir.specs.declared.inst.Inst.{Inst}
-use Rattle.ax_ir.specs.declared.inst.Inst.TheVariants as inst
-use Rattle.ax_ir.specs.declared.operand.Addr.{Addr}
-use Rattle.ax_ir.specs.declared.operand.Base.{Base}
-use Rattle.ax_ir.specs.declared.operand.Base.TheVariants as base
-use Rattle.ax_ir.specs.declared.operand.Operand.{Operand}
-use Rattle.ax_ir.specs.declared.types.Ty.{Ty}
+use Rattle.ax_module.specs.declared.inst.Inst.{Inst}
+use Rattle.ax_module.specs.declared.inst.Inst.TheVariants as inst
+use Rattle.ax_module.specs.declared.operand.Addr.{Addr}
+use Rattle.ax_module.specs.declared.operand.Base.{Base}
+use Rattle.ax_module.specs.declared.operand.Base.TheVariants as base
+use Rattle.ax_module.specs.declared.operand.Operand.{Operand}
+use Rattle.ax_module.specs.declared.types.Ty.{Ty}
 use Rattle.ax_rules.specs.declared.facts.Outcome.{Outcome}
 use Rattle.ax_rules.specs.declared.facts.Outcome.TheVariants as outcome
 use Rattle.ax_rules.specs.declared.facts.Scope.{Scope}

@@ -1,15 +1,15 @@
 -- N12 Limit.
 use Rattle.std.specs.Prelude.{◌-◌, if◌then◌else◌, ℕ, ◌*◌, Bool, false, not, ◌&&◌, ◌||◌, nat_eq, nat_lt, nat_le, List, [], ◌∷◌, length, Option, Some, None, sum_by}
 use Rattle.std.specs.List.{list_any, count_by}
-use Rattle.ax_ir.specs.declared.inst.Inst.{Inst}
-use Rattle.ax_ir.specs.declared.inst.Inst.TheVariants as inst
-use Rattle.ax_ir.specs.declared.module.Block.{Block}
-use Rattle.ax_ir.specs.declared.module.Function.{Function}
-use Rattle.ax_ir.specs.declared.module.Global.{Global}
-use Rattle.ax_ir.specs.declared.operand.Operand.{Operand}
-use Rattle.ax_ir.specs.declared.types.Ty.{Ty}
-use Rattle.ax_ir.specs.Kinds.{is_phi}
-use Rattle.ax_ir.specs.Types.{type_bytes}
+use Rattle.ax_module.specs.declared.inst.Inst.{Inst}
+use Rattle.ax_module.specs.declared.inst.Inst.TheVariants as inst
+use Rattle.ax_module.specs.declared.module.Block.{Block}
+use Rattle.ax_module.specs.declared.module.Function.{Function}
+use Rattle.ax_module.specs.declared.module.Global.{Global}
+use Rattle.ax_module.specs.declared.operand.Operand.{Operand}
+use Rattle.ax_module.specs.declared.types.Ty.{Ty}
+use Rattle.ax_module.specs.Kinds.{is_phi}
+use Rattle.ax_module.specs.Types.{type_bytes}
 use Rattle.ax_layout.specs.Layout.{end_of_span, globals_limit, globals_start, is_alignment, next_multiple, span_after}
 use Rattle.ax_rules.specs.Constants.{fits_type}
 use Rattle.ax_rules.specs.Parts.{operands_of}

@@ -1,15 +1,15 @@
 -- The parts of an instruction: the types that stand in it, its operands with their types, its pointers.
-pub use Rattle.ax_layout.specs.SourceInstructions.{pointers_of}
+pub use Rattle.ax_source_run.specs.SourceInstructions.{pointers_of}
 use Rattle.std.specs.Prelude.{◌≡◌, ℕ, Bool, ◌+◌, nat_eq, List, [], ◌∷◌, ◌++◌, map, Option, Some, None}
 use Rattle.std.specs.List.{flat_map}
-use Rattle.ax_ir.specs.declared.inst.Inst.{Inst}
-use Rattle.ax_ir.specs.declared.inst.Inst.TheVariants as inst
-use Rattle.ax_ir.specs.declared.operand.Arg.{Arg}
-use Rattle.ax_ir.specs.declared.operand.Arg.TheVariants as arg
-use Rattle.ax_ir.specs.declared.operand.Operand.{Operand}
-use Rattle.ax_ir.specs.declared.types.Ty.{Ty}
+use Rattle.ax_module.specs.declared.inst.Inst.{Inst}
+use Rattle.ax_module.specs.declared.inst.Inst.TheVariants as inst
+use Rattle.ax_module.specs.declared.operand.Arg.{Arg}
+use Rattle.ax_module.specs.declared.operand.Arg.TheVariants as arg
+use Rattle.ax_module.specs.declared.operand.Operand.{Operand}
+use Rattle.ax_module.specs.declared.types.Ty.{Ty}
 use Rattle.ax_rules.specs.declared.facts.Parts.{Parts}
-use Rattle.ax_ir.specs.declared.types.Ty.TheVariants.{I1, I8, I16, I32, I64, I128, Int, Float, Double, Ptr, Vector}
+use Rattle.ax_module.specs.declared.types.Ty.TheVariants.{I1, I8, I16, I32, I64, I128, Int, Float, Double, Ptr, Vector}
 
 -- a type's number tells it from all others
 abbrev pub type_number : Ty → ℕ

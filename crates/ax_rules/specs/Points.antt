@@ -1,12 +1,13 @@
 -- Where a fault can stand, and the rules with their numbers.
-use Rattle.std.specs.Prelude.{ℕ, ◌+◌, List, [], ◌∷◌, ◌++◌, map, length}
-use Rattle.ax_ir.specs.declared.inst.Inst.{Inst}
-use Rattle.ax_ir.specs.declared.module.Block.{Block}
-use Rattle.ax_ir.specs.declared.module.Function.{Function}
-use Rattle.ax_ir.specs.declared.module.Global.{Global}
-use Rattle.ax_ir.specs.declared.module.Module.{Module}
-use Rattle.ax_ops.specs.declared.place.Place.{Place}
-use Rattle.ax_ops.specs.declared.place.Place.TheVariants as place
+use Rattle.std.specs.Prelude.{ℕ, ◌+◌, Bool, true, false, List, [], ◌∷◌, ◌++◌, map, length}
+use Rattle.ax_module.specs.declared.inst.Inst.{Inst}
+use Rattle.ax_module.specs.declared.module.Block.{Block}
+use Rattle.ax_module.specs.declared.module.Function.{Function}
+use Rattle.ax_module.specs.declared.module.Global.{Global}
+use Rattle.ax_module.specs.declared.module.Module.{Module}
+use Rattle.ax_module.specs.declared.types.Ty.{Ty}
+use Rattle.ax_words.specs.declared.place.Place.{Place}
+use Rattle.ax_words.specs.declared.place.Place.TheVariants as place
 use Rattle.ax_rules.specs.declared.rule.Rule.{Rule}
 use Rattle.ax_rules.specs.declared.rule.Rule.TheVariants.{Width, Kind, DynamicShift, UserCall, Parameter, BadOrdering, MixedWidth, AlignOverstated, PlainLocked, NotDefined, Alloca, Limit}
 
@@ -74,3 +75,11 @@ number_of Limit = 12
 -- the rules by their numbers
 abbrev pub rules_in_order : List Rule
 rules_in_order = Width ∷ Kind ∷ DynamicShift ∷ UserCall ∷ Parameter ∷ BadOrdering ∷ MixedWidth ∷ AlignOverstated ∷ PlainLocked ∷ NotDefined ∷ Alloca ∷ Limit ∷ []
+
+-- the types of a function's signature
+abbrev pub signature_of : Function → List Ty
+signature_of f = f.result ∷ f.params
+
+abbrev pub is_empty : List Ty → Bool
+is_empty [] = true
+is_empty (t ∷ ts) = false

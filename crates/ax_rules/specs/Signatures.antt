@@ -1,16 +1,16 @@
 -- The functions that may be called: `@out`, and libatomic's routines (GCC libatomic ABI).
 use Rattle.std.specs.Prelude.{ℕ, Bool, true, false, not, ◌&&◌, nat_lt, if◌then◌else◌, List, [], ◌∷◌, map, Option, Some, None}
 use Rattle.std.specs.Cmp.Lexicographic.{pointwise}
-use Rattle.ax_ir.specs.declared.inst.Inst.{Inst}
-use Rattle.ax_ir.specs.declared.inst.Inst.TheVariants as inst
-use Rattle.ax_ir.specs.declared.operand.Arg.{Arg}
-use Rattle.ax_ir.specs.declared.operand.Arg.TheVariants as arg
-use Rattle.ax_ir.specs.declared.types.Ty.{Ty}
-use Rattle.ax_ir.specs.declared.types.Ty.TheVariants.{I1, I8, I16, I32, I64, I128, Ptr}
-use Rattle.ax_ops.specs.declared.routine.RoutineName.{RoutineName}
-use Rattle.ax_ops.specs.Routine as routines
-use Rattle.ax_layout.specs.SourceCalls as calls
-use Rattle.ax_layout.specs.SourceInstructions.{is_out}
+use Rattle.ax_module.specs.declared.inst.Inst.{Inst}
+use Rattle.ax_module.specs.declared.inst.Inst.TheVariants as inst
+use Rattle.ax_module.specs.declared.operand.Arg.{Arg}
+use Rattle.ax_module.specs.declared.operand.Arg.TheVariants as arg
+use Rattle.ax_module.specs.declared.types.Ty.{Ty}
+use Rattle.ax_module.specs.declared.types.Ty.TheVariants.{I1, I8, I16, I32, I64, I128, Ptr}
+use Rattle.ax_words.specs.declared.routine.RoutineName.{RoutineName}
+use Rattle.ax_words.specs.Routine as routines
+use Rattle.ax_source_run.specs.SourceCalls as calls
+use Rattle.ax_source_run.specs.SourceInstructions.{is_out}
 use Rattle.ax_rules.specs.declared.facts.Shape.{Shape}
 use Rattle.ax_rules.specs.declared.facts.Shape.TheVariants as shape
 use Rattle.ax_rules.specs.Parts.{same_type}

@@ -1,20 +1,20 @@
 -- N1 Width, N3 DynamicShift and N5 Parameter.
 use Rattle.std.specs.Prelude.{ℕ, Bool, true, false, not, ◌&&◌, ◌||◌, nat_eq, nat_lt, if◌then◌else◌, pos, List, [], ◌∷◌, Option, Some, None}
 use Rattle.std.specs.List.{list_any}
-use Rattle.ax_ir.specs.declared.inst.BinOp.{BinOp}
-use Rattle.ax_ir.specs.declared.inst.BinOp.TheVariants as bin
-use Rattle.ax_ir.specs.declared.inst.Pred.{Pred}
-use Rattle.ax_ir.specs.declared.inst.Pred.TheVariants as condition
-use Rattle.ax_ir.specs.declared.inst.Cast.TheVariants.{Sext}
-use Rattle.ax_ir.specs.declared.inst.Inst.{Inst}
-use Rattle.ax_ir.specs.declared.inst.Inst.TheVariants as inst
-use Rattle.ax_ir.specs.declared.operand.Addr.{Addr}
-use Rattle.ax_ir.specs.declared.operand.Operand.{Operand}
-use Rattle.ax_ir.specs.declared.operand.Operand.TheVariants as operand
-use Rattle.ax_ir.specs.declared.types.Ty.{Ty}
-use Rattle.ax_ir.specs.declared.types.Ty.TheVariants.{I128, Int}
-use Rattle.ax_ir.specs.WellFormed.{is_bit}
-use Rattle.ax_layout.specs.SourceValues.{type_bits}
+use Rattle.ax_module.specs.declared.inst.BinOp.{BinOp}
+use Rattle.ax_module.specs.declared.inst.BinOp.TheVariants as bin
+use Rattle.ax_module.specs.declared.inst.Pred.{Pred}
+use Rattle.ax_module.specs.declared.inst.Pred.TheVariants as condition
+use Rattle.ax_module.specs.declared.inst.Cast.TheVariants.{Sext}
+use Rattle.ax_module.specs.declared.inst.Inst.{Inst}
+use Rattle.ax_module.specs.declared.inst.Inst.TheVariants as inst
+use Rattle.ax_module.specs.declared.operand.Addr.{Addr}
+use Rattle.ax_module.specs.declared.operand.Operand.{Operand}
+use Rattle.ax_module.specs.declared.operand.Operand.TheVariants as operand
+use Rattle.ax_module.specs.declared.types.Ty.{Ty}
+use Rattle.ax_module.specs.declared.types.Ty.TheVariants.{I128, Int}
+use Rattle.ax_module.specs.WellFormed.{is_bit}
+use Rattle.ax_source_run.specs.SourceValues.{type_bits}
 use Rattle.ax_rules.specs.Parts.{types_of, pointers_of}
 
 -- a type of a width that has no name of its own

@@ -2,18 +2,18 @@
 
 ghost use Rattle.std.specs.Prelude.{◌≡◌, map};
 ghost use Rattle.std.specs.Cmp.Lexicographic.{pointwise};
-ghost use Rattle.ax_layout.specs.SourceInstructions.{is_out};
+ghost use Rattle.ax_source_run.specs.SourceInstructions.{is_out};
 ghost use Rattle.ax_rules.specs.Parts.{same_type};
 ghost use Rattle.ax_rules.specs.Signatures.{arg_type, argument_types, called, fits_out, fits_routine, result_type, same_result, shape_of, type_of_routine, user_call};
 
 use crate::facts::Shape;
 use crate::types::is_same;
-use ax_ir::{Arg, Inst, Ty};
-use ax_ops::RoutineName;
+use ax_module::{Arg, Inst, Ty};
+use ax_words::RoutineName;
 
 /// Which arguments a routine takes.
-#[tactic(auto, unfolding(crate::specs::Signatures::shape_of, ax_layout::specs::SourceCalls::kind_of, ax_ops::specs::Routine::number_of))]
-pub(crate) fn shape(routine: RoutineName) -> Shape
+#[tactic(auto, unfolding(crate::specs::Signatures::shape_of, ax_source_run::specs::SourceCalls::kind_of, ax_words::specs::Routine::number_of))]
+pub fn shape(routine: RoutineName) -> Shape
     ensures { result ≡ shape_of routine }
 {
     match routine {
@@ -43,7 +43,7 @@ pub(crate) fn shape(routine: RoutineName) -> Shape
 
 /// The type of a sized routine's size.
 #[tactic(auto, unfolding(crate::specs::Signatures::type_of_routine))]
-pub(crate) fn type_of_routine(routine: RoutineName) -> Ty
+pub fn type_of_routine(routine: RoutineName) -> Ty
     ensures { result ≡ type_of_routine routine }
 {
     let number = routine.number();
@@ -134,7 +134,7 @@ fn fits_routine(routine: RoutineName, t: Option<Ty>, args: &[Arg]) -> bool
 
 /// The routine that is called with the types of its signature. None exactly where the name is no
 /// routine's, or a type is another.
-pub(crate) fn called(t: Option<Ty>, name: &[u8], args: &[Arg]) -> Option<RoutineName>
+pub fn called(t: Option<Ty>, name: &[u8], args: &[Arg]) -> Option<RoutineName>
     ensures { result ≡ called t name.now args.now }
 {
     let routine = RoutineName::named(name)?;

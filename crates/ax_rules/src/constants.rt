@@ -1,12 +1,12 @@
 //! Constants: those that a type has, and which element a constant index names.
 
 ghost use Rattle.std.specs.Prelude.{◌≡◌, ◌^◌, ◌<◌, ◌≤◌, ◌*◌, ◌-◌, IsTrue, IfSome, if◌then◌else◌, nat_lt, pos, negsuc};
-ghost use Rattle.ax_ir.specs.Ranges.{is_in_range};
-ghost use Rattle.ax_layout.specs.SourceValues.{index_of, type_bits, wrapped};
+ghost use Rattle.ax_module.specs.Ranges.{is_in_range};
+ghost use Rattle.ax_source_run.specs.SourceValues.{index_of, type_bits, wrapped};
 ghost use Rattle.ax_rules.specs.Constants.{constant_index, constant_of, fits_bits, fits_type, is_index_type, is_multiple};
 
 use crate::types::{bits, is_index_type, is_integer};
-use ax_ir::{Operand, Ty};
+use ax_module::{Operand, Ty};
 
 /// Whether a constant is one of a type of so many bits, at most 127.
 fn fits_few_bits(bits: u64, v: Operand) -> bool
@@ -34,7 +34,7 @@ fn fits_bits(bits: u64, v: Operand) -> bool
 }
 
 /// Whether a constant is one of the type; other operands are.
-pub(crate) fn fits_type(t: Ty, v: Operand) -> bool
+pub fn fits_type(t: Ty, v: Operand) -> bool
     requires { IsTrue (is_in_range v) }
     ensures { result ≡ fits_type t v }
 {
@@ -54,7 +54,7 @@ fn wrapped(bits: u64, n: i128) -> u128
 }
 
 /// The number of so many bits that a constant stands for. None exactly where the operand is none.
-pub(crate) fn constant_of(bits: u64, v: Operand) -> Option<u128>
+pub fn constant_of(bits: u64, v: Operand) -> Option<u128>
     requires { bits < 65 }
     ensures value { result ≡ constant_of bits v }
     ensures below { IfSome result (λ n. n < 2 ^ bits) }
@@ -95,7 +95,7 @@ fn index_of(t: Ty, n: u128) -> u64
 }
 
 /// A constant index as it counts: extended by sign to 64 bits, and taken as unsigned.
-pub(crate) fn constant_index(t: Ty, v: Operand) -> Option<u64>
+pub fn constant_index(t: Ty, v: Operand) -> Option<u64>
     ensures { result ≡ constant_index t v }
 {
     if is_index_type(t) {
@@ -107,7 +107,7 @@ pub(crate) fn constant_index(t: Ty, v: Operand) -> Option<u64>
 }
 
 /// Whether a number is a multiple of another; 0 alone is one of 0.
-pub(crate) fn is_multiple(a: u128, n: u64) -> bool
+pub fn is_multiple(a: u128, n: u64) -> bool
     ensures { result ≡ is_multiple a n }
 {
     if n == 0 { a == 0 } else { a % n as u128 == 0 }

@@ -1,10 +1,10 @@
 //! What the tests look up: the results of a function's instructions, and the parts of one.
 
-use ax_ir::{Addr, Base, Operand, Ty};
-use ax_ops::Items;
+use ax_module::{Addr, Base, Operand, Ty};
+use ax_words::Items;
 
 /// The elements of a global or of an alloca: of which type, and how many.
-#[derive(Clone, Copy, PartialEq, Eq)]
+#[derive(Clone, Copy)]
 pub struct Extent {
     pub elem: Ty,
     pub count: u64,
@@ -15,7 +15,7 @@ pub struct Extent {
 /// The pair of a compare-exchange is told by the type of its first part, the address of an alloca by
 /// its elements, and a getelementptr by its base, its element type, the type of its index and the
 /// index.
-#[derive(Clone, Copy, PartialEq, Eq)]
+#[derive(Clone, Copy)]
 pub enum Outcome {
     Nothing,
     Number(Ty),
@@ -25,7 +25,7 @@ pub enum Outcome {
 }
 
 /// What a pointer comes from: a global, the alloca of an instruction, or neither.
-#[derive(Clone, Copy, PartialEq, Eq)]
+#[derive(Clone, Copy)]
 pub enum Origin {
     Global(u32),
     Alloca(u32),
@@ -51,7 +51,7 @@ pub struct Parts {
 }
 
 /// Which arguments a routine of libatomic takes: one of a size, or one that takes the size.
-#[derive(Clone, Copy, PartialEq, Eq)]
+#[derive(Clone, Copy)]
 pub enum Shape {
     Load,
     Store,

@@ -4,11 +4,11 @@ ghost use Rattle.std.specs.Prelude.{◌≡◌};
 ghost use Rattle.std.specs.List.{list_any};
 ghost use Rattle.ax_rules.specs.Kind.{is_bad_gep, is_bad_pointer, is_gep, is_object, is_other, kind_fault};
 ghost use Rattle.ax_rules.specs.Parts.{AreParts};
-ghost use Rattle.ax_rules.specs.Tests.{signature_of};
+ghost use Rattle.ax_rules.specs.Points.{signature_of};
 
 use crate::facts::{Outcome, Parts, Scope};
 use crate::types::is_other;
-use ax_ir::{Addr, Base, Function, Inst, Ty, module};
+use ax_module::{Addr, Base, Function, Inst, Ty, module};
 
 fn is_gep(scope: &Scope, base: Base) -> bool
     ensures { result ≡ is_gep scope.now base }

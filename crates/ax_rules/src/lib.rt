@@ -1,15 +1,11 @@
-//! What a module can be refused for: a test for each rule that one point of the module shows.
+//! What the shape of one point of a module can be refused for, and what the tests of its accesses ask of it.
 #![tactic(auto)]
 
-pub mod alignment;
-pub mod allocas;
 pub mod calls;
 pub mod constants;
 pub mod facts;
 pub mod kind;
 pub mod limits;
-pub mod mixed;
-pub mod orders;
 pub mod parts;
 pub mod rule;
 pub mod scope;

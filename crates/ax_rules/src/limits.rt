@@ -2,7 +2,7 @@
 
 ghost use Rattle.std.specs.Prelude.{◌≡◌, ◌≤◌, ◌<◌, ◌+◌, not, IsTrue, MatchOption, All, sum_by, nat_lt};
 ghost use Rattle.std.specs.List.{list_any};
-ghost use Rattle.ax_ir.specs.Ranges.{is_in_range};
+ghost use Rattle.ax_module.specs.Ranges.{is_in_range};
 ghost use Rattle.ax_layout.specs.Layout.{end_of_span, is_alignment, next_multiple, span_after};
 ghost use Rattle.ax_rules.specs.Limits.{alignment_in, alloca_bytes, bytes_of_allocas, global_limit_fault, has_many_phis, head_limit_fault, instruction_count, is_beyond, limit_fault, passes_first};
 ghost use Rattle.ax_rules.specs.Constants.{fits_type};
@@ -10,7 +10,7 @@ ghost use Rattle.ax_rules.specs.Parts.{AreParts};
 
 use crate::constants::fits_type;
 use crate::facts::Parts;
-use ax_ir::{Block, Function, Inst, Operand, Ty, module};
+use ax_module::{Block, Function, Inst, Operand, Ty, module};
 
 /// The greatest address at which the globals may end.
 const LIMIT: u64 = 0x110000;

@@ -2,12 +2,12 @@
 
 ghost use Rattle.std.specs.Prelude.{◌≡◌, ◌++◌, IfOk, OnOk, map};
 ghost use Rattle.std.specs.List.{flat_map};
-ghost use Rattle.ax_layout.specs.SourceInstructions.{pointers_of_arg};
+ghost use Rattle.ax_source_run.specs.SourceInstructions.{pointers_of_arg};
 ghost use Rattle.ax_rules.specs.Parts.{AreParts, arg_operands, arg_types, operands_of, pointers_of, result_types, step_operands, step_types, types_of};
 
 use crate::facts::Parts;
-use ax_ir::{Addr, Arg, Inst, Operand, Ty};
-use ax_ops::Items;
+use ax_module::{Addr, Arg, Inst, Operand, Ty};
+use ax_words::Items;
 use std::alloc::{AllocError, Global};
 
 type Step = Option<(Ty, u64, Ty, Operand)>;
@@ -178,7 +178,7 @@ fn operands_in(alloc: Global, inst: &Inst) -> Result<Vec<(Ty, Operand)>, AllocEr
     Ok(all)
 }
 
-#[tactic(auto, unfolding(ax_layout::specs::SourceInstructions::pointers_of))]
+#[tactic(auto, unfolding(ax_source_run::specs::SourceInstructions::pointers_of))]
 fn pointers_in(alloc: Global, inst: &Inst) -> Result<Vec<Addr>, AllocError>
     ensures { IfOk result (λ v. v.items ≡ pointers_of inst.now) }
 {

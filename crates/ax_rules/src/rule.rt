@@ -4,7 +4,7 @@ ghost use Rattle.std.specs.Prelude.{◌≡◌};
 ghost use Rattle.ax_rules.specs.Points.{number_of};
 
 /// What a module can be refused for, in the order of the numbers N1 to N12.
-#[derive(Clone, Copy, PartialEq, Eq)]
+#[derive(Clone, Copy)]
 pub enum Rule {
     Width,
     Kind,

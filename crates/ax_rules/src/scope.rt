@@ -1,12 +1,12 @@
 //! What an instruction can name, and what a pointer comes from.
 
 ghost use Rattle.std.specs.Prelude.{◌≡◌, IfOk, map};
-ghost use Rattle.ax_ir.specs.WellFormed.{insts_of};
+ghost use Rattle.ax_module.specs.WellFormed.{insts_of};
 ghost use Rattle.ax_rules.specs.Facts.{call_outcome, extent_of, extent_of_global, extent_of_outcome, origin_of, origin_of_step, outcome_at, outcome_of, part_type, scope_of, is_alloca, is_shared};
 
 use crate::facts::{Extent, Origin, Outcome, Scope};
-use ax_ir::{Base, Function, Inst, Module, Ty};
-use ax_ops::Items;
+use ax_module::{Base, Function, Inst, Module, Ty};
+use ax_words::Items;
 use std::alloc::{AllocError, Global};
 
 /// What an instruction's result is.
@@ -73,7 +73,7 @@ impl Scope {
         })
     }
 
-    pub(crate) fn outcome(&self, k: u32) -> Outcome
+    pub fn outcome(&self, k: u32) -> Outcome
         ensures { result ≡ outcome_at self.now k }
     {
         self.outcomes
@@ -84,7 +84,7 @@ impl Scope {
     }
 
     /// What the base of a getelementptr comes from.
-    pub(crate) fn origin_of_step(&self, base: Base) -> Origin
+    pub fn origin_of_step(&self, base: Base) -> Origin
         ensures { result ≡ origin_of_step self.now base }
     {
         match base {
@@ -98,7 +98,7 @@ impl Scope {
     }
 
     /// What a pointer with this base comes from.
-    pub(crate) fn origin(&self, base: Base) -> Origin
+    pub fn origin(&self, base: Base) -> Origin
         ensures { result ≡ origin_of self.now base }
     {
         match base {
@@ -113,7 +113,7 @@ impl Scope {
     }
 
     /// The elements of what a pointer comes from.
-    pub(crate) fn extent(&self, origin: Origin) -> Option<Extent>
+    pub fn extent(&self, origin: Origin) -> Option<Extent>
         ensures { result ≡ extent_of self.now origin }
     {
         match origin {
@@ -127,13 +127,15 @@ impl Scope {
     }
 }
 
-pub(crate) fn is_alloca(origin: Origin) -> bool
+/// Whether a pointer comes from an alloca.
+pub fn is_alloca(origin: Origin) -> bool
     ensures { result ≡ is_alloca origin }
 {
     matches!(origin, Origin::Alloca(_))
 }
 
-pub(crate) fn is_shared(origin: Origin) -> bool
+/// Whether a pointer comes from a global.
+pub fn is_shared(origin: Origin) -> bool
     ensures { result ≡ is_shared origin }
 {
     matches!(origin, Origin::Global(_))

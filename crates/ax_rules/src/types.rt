@@ -1,15 +1,15 @@
 //! Questions about types.
 
 ghost use Rattle.std.specs.Prelude.{◌≡◌};
-ghost use Rattle.ax_ir.specs.WellFormed.{is_bit};
-ghost use Rattle.ax_layout.specs.SourcePointers.{is_i8};
-ghost use Rattle.ax_layout.specs.SourceValues.{type_bits};
+ghost use Rattle.ax_module.specs.WellFormed.{is_bit};
+ghost use Rattle.ax_source_run.specs.SourcePointers.{is_i8};
+ghost use Rattle.ax_source_run.specs.SourceValues.{type_bits};
 ghost use Rattle.ax_rules.specs.Constants.{is_index_type, is_integer};
 ghost use Rattle.ax_rules.specs.Kind.{is_other};
 ghost use Rattle.ax_rules.specs.Parts.{same_type, type_number};
 ghost use Rattle.ax_rules.specs.Width.{is_i128, is_odd};
 
-use ax_ir::Ty;
+use ax_module::Ty;
 
 fn type_number(t: Ty) -> u64
     ensures { result ≡ type_number t }
@@ -29,14 +29,15 @@ fn type_number(t: Ty) -> u64
     }
 }
 
-pub(crate) fn is_same(t: Ty, u: Ty) -> bool
+/// Whether two types are one; two vectors are.
+pub fn is_same(t: Ty, u: Ty) -> bool
     ensures { result ≡ same_type t u }
 {
     type_number(t) == type_number(u)
 }
 
 /// How many bits a number of the type has.
-pub(crate) fn bits(t: Ty) -> u64
+pub fn bits(t: Ty) -> u64
     ensures { result ≡ type_bits t }
 {
     match t {
@@ -46,43 +47,50 @@ pub(crate) fn bits(t: Ty) -> u64
     }
 }
 
-pub(crate) fn is_odd(t: Ty) -> bool
+/// Whether it is a whole-number type of none of the widths that a value can have.
+pub fn is_odd(t: Ty) -> bool
     ensures { result ≡ is_odd t }
 {
     matches!(t, Ty::Int(_))
 }
 
-pub(crate) fn is_bit(t: Ty) -> bool
+/// Whether it is `i1`.
+pub fn is_bit(t: Ty) -> bool
     ensures { result ≡ is_bit t }
 {
     matches!(t, Ty::I1)
 }
 
-pub(crate) fn is_i8(t: Ty) -> bool
+/// Whether it is `i8`.
+pub fn is_i8(t: Ty) -> bool
     ensures { result ≡ is_i8 t }
 {
     matches!(t, Ty::I8)
 }
 
-pub(crate) fn is_i128(t: Ty) -> bool
+/// Whether it is `i128`.
+pub fn is_i128(t: Ty) -> bool
     ensures { result ≡ is_i128 t }
 {
     matches!(t, Ty::I128)
 }
 
-pub(crate) fn is_integer(t: Ty) -> bool
+/// Whether it is a whole-number type.
+pub fn is_integer(t: Ty) -> bool
     ensures { result ≡ is_integer t }
 {
     !matches!(t, Ty::Float | Ty::Double | Ty::Ptr | Ty::Vector)
 }
 
-pub(crate) fn is_other(t: Ty) -> bool
+/// Whether it is no whole-number type.
+pub fn is_other(t: Ty) -> bool
     ensures { result ≡ is_other t }
 {
     !is_integer(t)
 }
 
-pub(crate) fn is_index_type(t: Ty) -> bool
+/// Whether an index can have it: `i1` to `i64`.
+pub fn is_index_type(t: Ty) -> bool
     ensures { result ≡ is_index_type t }
 {
     matches!(t, Ty::I1 | Ty::I8 | Ty::I16 | Ty::I32 | Ty::I64)

@@ -2,14 +2,14 @@
 
 ghost use Rattle.std.specs.Prelude.{◌≡◌, ◌||◌, not};
 ghost use Rattle.std.specs.List.{list_any};
-ghost use Rattle.ax_ir.specs.WellFormed.{is_bit};
+ghost use Rattle.ax_module.specs.WellFormed.{is_bit};
 ghost use Rattle.ax_rules.specs.Parts.{AreParts};
-ghost use Rattle.ax_rules.specs.Tests.{is_empty, signature_of};
+ghost use Rattle.ax_rules.specs.Points.{is_empty, signature_of};
 ghost use Rattle.ax_rules.specs.Width.{has_wide_step, is_amount, is_equality, is_left_out, is_mul, is_odd, is_shift, is_shift_amount, memory_types, returns_value, shift_fault, width_fault};
 
 use crate::facts::Parts;
 use crate::types::{bits, is_bit, is_i128, is_odd};
-use ax_ir::{Addr, BinOp, Cast, Function, Inst, Operand, Pred, Ty, module};
+use ax_module::{Addr, BinOp, Cast, Function, Inst, Operand, Pred, Ty, module};
 
 /// Whether an instruction has an i1 in memory.
 #[tactic(auto, unfolding(crate::specs::Width::memory_types))]

@@ -13,17 +13,19 @@ use Rattle.ax_store.specs.Storage.{stored}
 use Rattle.ax_store.specs.Store.{storage_of}
 use Rattle.ax_store.proofs.Calls.{put_written}
 use Rattle.ax_store.proofs.Regions.{globals_access}
+use Rattle.ax_tags.specs.declared.tags.Role.TheVariants.{None as Outside}
 use Rattle.ax_isa.specs.declared.cpu.Status.TheVariants.{Running}
 use Rattle.ax_isa.specs.declared.images.Image.{Image}
 use Rattle.ax_isa.specs.Processor.{processor_of}
 use Rattle.ax_isa.specs.Run.{frame_base, start_processor, start_regs, tag_at, run, explain}
 use Rattle.ax_rv.specs.declared.instructions.RvInstr.{RvInstr}
-use Rattle.ax_rv.specs.Instructions.{rv_kind}
+use Rattle.ax_isa.specs.Tells.{given_of}
+use Rattle.ax_lower.specs.Settings.{rv_setting}
 use Rattle.ax_first.specs.declared.first.First.{First}
 use Rattle.ax_first.specs.WellFormed.{AreEntries}
 use Rattle.ax_lower.specs.Layout.{end_of}
 use Rattle.ax_lower.specs.FirstLowers.{start_of}
-use Rattle.ax_lower.specs.Sound.{IsSound}
+use Rattle.ax_agree.specs.Sound.{HasFunctions}
 use Rattle.ax_run.specs.Machine.{MachineState, Shows, Tells, idle}
 use Rattle.ax_run.specs.Start.{bytes_of, cpus_from, first_cpu, frames_for, storage_with}
 use Rattle.ax_run.proofs.Telling.{set_one}
@@ -69,7 +71,7 @@ frames_length sizes [] = refl
 frames_length sizes (f ∷ es) = ap suc (frames_length sizes es)
 
 first_is : (p place : ℕ) → processor_of (first_cpu p place) ≡ start_processor 2 p (Some place)
-first_is p place = λ d. record { regs = λ r. at r d; place = place; status = Running }
+first_is p place = λ d. record { regs = λ r. at r d; compared = (0, 0); half = false; place = place; status = Running; role = Outside }
   where
     at : (r : ℕ) → slice_index_or (slice_set (replicate 32 0) 2 (frame_base p + 131064)) r 0 ≡ start_regs 2 p r
     at r = set_one (replicate 32 0) 2 (frame_base p + 131064) r (omega (arith, length-replicate {A = ℕ} 32 0)) ∙ ap (λ x. if nat_eq r 2 then frame_base p + 131064 else x) (zeros 32 r)
@@ -84,13 +86,13 @@ module _ (image : Image RvInstr) (program : First) (entries : List ℕ) where
   known : (functions k d : ℕ) → AreEntries program entries → functions ≡ length program.functions → k < length entries → slice_index_or entries k d < functions
   known functions k d are e h = (let l : slice_index_or entries k d < length program.functions = are.each k _ (slice_get-get_or entries k d h) in omega arith)
 
-  pub entries_known : IsSound (length program.functions) image → AreEntries program entries → All (λ f. f < length image.entries) entries
+  pub entries_known : HasFunctions (length program.functions) image → AreEntries program entries → All (λ f. f < length image.entries) entries
   entries_known sound are = λ k d h. known (length image.entries) k d are sound.entries h
 
-  pub frames_known : IsSound (length program.functions) image → AreEntries program entries → All (λ f. f < length image.frames) entries
+  pub frames_known : HasFunctions (length program.functions) image → AreEntries program entries → All (λ f. f < length image.frames) entries
   frames_known sound are = λ k d h. known (length image.frames) k d are sound.frames h
 
-  pub frames_fit : IsSound (length program.functions) image → AreEntries program entries → All IsFrameSize (frames_for image.frames entries)
+  pub frames_fit : HasFunctions (length program.functions) image → AreEntries program entries → All IsFrameSize (frames_for image.frames entries)
   frames_fit sound are = All-map IsFrameSize (λ f. slice_index_or image.frames f 0) entries (λ k d h. sound.sizes _ 0 (frames_known sound are k d h))
 
   pub started : (r : MachineState) → r.events ≡ [] → r.sources ≡ [] → r.outputs ≡ []
@@ -99,8 +101,9 @@ module _ (image : Image RvInstr) (program : First) (entries : List ℕ) where
       → Tells (start_of image program entries) r
   started r none given written cpus cells storage =
       record {
-        sources = given ∙ sym (ap (λ es. explain rv_kind r.image.code (tag_at r.image.tags) es (start_of image program entries)) none);
-        shows = subst (Shows r) (sym (ap (λ es. run rv_kind r.image.code es (start_of image program entries)) none)) shows;
+        sources = λ counts. given ∙ sym (ap (λ es. explain (rv_setting r.image) given_of (tag_at r.image.tags) counts es (start_of image program entries)) none);
+        shows = subst (Shows r) (sym (ap (λ es. run (rv_setting r.image) es (start_of image program entries)) none)) shows;
+        flat = λ q. ap (λ es. (run (rv_setting r.image) es (start_of image program entries)).noted.storage.waiting q) none;
       }
     where
       count : length r.processors ≡ length entries

@@ -1,27 +1,26 @@
 -- When a machine shows a state of the machine run, and when what it wrote down tells the run from a start.
 pub use Rattle.ax_run.specs.MachineState.{MachineState, IsReady}
-use Rattle.std.specs.Prelude.{◌≡◌, ℕ, ◌+◌, ◌-◌, ◌<◌, Bool, List, [], ◌∷◌, ◌++◌, Option, length, slice_index_or, slice_set}
-use Rattle.ax_ops.specs.declared.source.SourceEvent.{SourceEvent}
-use Rattle.ax_ops.specs.declared.source.SourceEvent.TheVariants.{Act}
+use Rattle.std.specs.Prelude.{◌≡◌, ℕ, ◌+◌, ◌-◌, ◌<◌, Bool, false, List, [], ◌∷◌, ◌++◌, length, option_to_list, slice_index_or, slice_set}
+use Rattle.ax_words.specs.declared.event.Event.{Event}
+use Rattle.ax_words.specs.declared.event.Event.TheVariants.{Step}
+use Rattle.ax_store.specs.declared.entry.Entry.{Entry}
 use Rattle.ax_store.specs.Storage.{at_place}
 use Rattle.ax_store.specs.Store.{storage_of}
-use Rattle.ax_isa.specs.declared.cpu.Cpu.{Cpu}
-use Rattle.ax_isa.specs.declared.cpu.Status.TheVariants.{Ended}
-use Rattle.ax_isa.specs.declared.effects.Outcome.{Outcome}
 use Rattle.ax_store.specs.StoreState.{StoreState}
-use Rattle.ax_isa.specs.declared.events.Event.{Event}
-use Rattle.ax_isa.specs.declared.events.Event.TheVariants.{Step}
-use Rattle.ax_isa.specs.declared.tags.Tag.{Tag}
-use Rattle.ax_isa.specs.declared.tags.Tag.TheVariants.{Silent, Act as Acts}
+use Rattle.ax_isa.specs.declared.cpu.Cpu.{Cpu}
+use Rattle.ax_tags.specs.declared.tags.Role.TheVariants.{None as Outside}
+use Rattle.ax_isa.specs.declared.cpu.Status.TheVariants.{Ended}
+use Rattle.ax_isa.specs.declared.shown.Shown.{Shown}
 use Rattle.ax_isa.specs.Processor.{Processor, processor_of}
-use Rattle.ax_isa.specs.Effects.{noted}
-use Rattle.ax_isa.specs.Steps.{Done, step}
 use Rattle.ax_isa.specs.Run.{Machine, outputs_of, tag_at, run, explain}
+use Rattle.ax_isa.specs.Stepping.{IsStepAt}
+use Rattle.ax_isa.specs.Tells.{given_of}
 use Rattle.ax_rv.specs.Instructions.{rv_kind}
+use Rattle.ax_lower.specs.Settings.{rv_setting}
 
 -- past the last processor there is one that has ended
 abbrev pub idle : Cpu
-idle = record { regs = []; place = 0; status = Ended }
+idle = record { regs = []; compared = (0, 0); half = false; place = 0; status = Ended; role = Outside }
 
 abbrev pub cpu_in : MachineState → ℕ → Cpu
 cpu_in r q = slice_index_or r.processors q idle
@@ -41,8 +40,11 @@ pub record Shows (r : MachineState) (m : Machine) : Type 0 where
 
 -- A MACHINE TELLS THE RUN of its image over its events from a start, and the source events that explain it
 pub record Tells (start : Machine) (r : MachineState) : Type 0 where
-  pub sources : r.sources ≡ explain rv_kind r.image.code (tag_at r.image.tags) r.events start
-  pub shows : Shows r (run rv_kind r.image.code r.events start)
+  -- without buffers it is all the same which stores are source events
+  pub sources : (counts : Entry → Bool) → r.sources ≡ explain (rv_setting r.image) given_of (tag_at r.image.tags) counts r.events start
+  pub shows : Shows r (run (rv_setting r.image) r.events start)
+  -- and no store waits
+  pub flat : (q : ℕ) → (run (rv_setting r.image) r.events start).noted.storage.waiting q ≡ []
 
 -- through a call it goes on telling the run of whatever start it told
 abbrev pub GoesOn : MachineState → MachineState → Type 0
@@ -53,21 +55,12 @@ pub record Kept (old new : MachineState) : Type 0 where
   pub image : new.image ≡ old.image
   pub count : length new.processors ≡ length old.processors
 
--- what the next step of processor p is
-abbrev pub stepped : MachineState → ℕ → (ℕ → Bool) → Done
-stepped r p lost = step rv_kind r.image.code p (processor_in r p) (noted (storage_of r.store) lost)
-
--- that step of the processor and the storage, before it is written down
-pub record Advanced (p : ℕ) (old new : MachineState) (outcome : Outcome) : Type 0 where
-  pub processors : (lost : ℕ → Bool) (q : ℕ) → processor_in new q ≡ at_place (processor_in old) p (stepped old p lost).processor q
-  pub storage : (lost : ℕ → Bool) → storage_of new.store ≡ (stepped old p lost).noted.storage
-  pub shown : (lost : ℕ → Bool) → outcome ≡ (stepped old p lost).outcome
+-- a step of processor p and of the storage, before it is written down
+pub record Advanced (p : ℕ) (old new : MachineState) (shown : Shown) : Type 0 where
+  pub step : IsStepAt rv_kind old.image.code old.image.tags p (processor_in old p) (processor_in new p) old.store new.store shown
+  pub others : (q : ℕ) → processor_in new q ≡ at_place (processor_in old) p (processor_in new p) q
   pub count : length new.processors ≡ length old.processors
   pub rest : new ≡ record old { processors = new.processors; store = new.store }
-
-abbrev pub acts_of : ℕ → Tag → List SourceEvent
-acts_of p Silent = []
-acts_of p Acts = Act p ∷ []
 
 -- with this storage
 abbrev pub stored : StoreState → MachineState → MachineState
@@ -77,13 +70,13 @@ stored s r = record r { store = s }
 abbrev pub passed : Event → MachineState → MachineState
 passed e r = record r { events = r.events ++ e ∷ []; room = r.room - 1 }
 
--- a Step with its tag and output is
-abbrev pub counted : ℕ → Tag → Option ℕ → MachineState → MachineState
-counted p tag output r =
+-- a Step with what it shows is
+abbrev pub counted : ℕ → Shown → MachineState → MachineState
+counted p shown r =
     record r {
       retired = slice_set r.retired p (retired_in r p + 1);
-      outputs = r.outputs ++ outputs_of p output;
-      sources = r.sources ++ acts_of p tag;
+      outputs = r.outputs ++ outputs_of p shown.outcome.output;
+      sources = r.sources ++ option_to_list shown.gives;
       events = r.events ++ Step p ∷ [];
       room = r.room - 1;
     }

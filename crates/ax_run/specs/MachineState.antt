@@ -1,10 +1,10 @@
 -- What contracts see of a machine, and what every machine keeps.
 use Rattle.std.specs.Prelude.{◌≡◌, ℕ, ◌+◌, ◌≤◌, false, List, Some, length, slice_get, slice_index_or}
-use Rattle.ax_ops.specs.declared.source.SourceEvent.{SourceEvent}
+use Rattle.ax_words.specs.declared.source.SourceEvent.{SourceEvent}
 use Rattle.ax_store.specs.StoreState.{StoreState}
 use Rattle.ax_store.specs.Store.{processors}
 use Rattle.ax_isa.specs.declared.cpu.Cpu.{Cpu}
-use Rattle.ax_isa.specs.declared.events.Event.{Event}
+use Rattle.ax_words.specs.declared.event.Event.{Event}
 use Rattle.ax_isa.specs.declared.images.Image.{Image}
 use Rattle.ax_rv.specs.declared.instructions.RvInstr.{RvInstr}
 use Rattle.ax_rv.specs.Instructions.{IsInstr}

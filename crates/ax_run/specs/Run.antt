@@ -2,15 +2,18 @@
 pub use Rattle.ax_run.specs.RunState.{RunState}
 use Rattle.std.specs.Prelude.{◌≡◌, ◌≤◌, Bool, true, false, List, [], length}
 use Rattle.std.specs.List.{sum_by}
-use Rattle.ax_isa.specs.declared.events.Event.{Event}
+use Rattle.ax_words.specs.declared.event.Event.{Event}
 use Rattle.ax_isa.specs.declared.images.Image.{Image}
-use Rattle.ax_isa.specs.Run.{Machine}
+use Rattle.ax_store.specs.declared.entry.Entry.{Entry}
+use Rattle.ax_isa.specs.Run.{Machine, explain, tag_at}
+use Rattle.ax_isa.specs.Tells.{given_of}
 use Rattle.ax_rv.specs.declared.instructions.RvInstr.{RvInstr}
 use Rattle.ax_first.specs.declared.first.First.{First}
 use Rattle.ax_sched.specs.declared.plan.Plan.{Plan}
 use Rattle.ax_sched.specs.Events.{events_of}
 use Rattle.ax_sched.specs.Plan.{IsPlan, times_of}
-use Rattle.ax_lower.specs.FirstLowers.{start_of, run_of, explained_by}
+use Rattle.ax_lower.specs.FirstLowers.{start_of, run_of}
+use Rattle.ax_lower.specs.Settings.{rv_setting}
 use Rattle.ax_run.specs.Machine.{Shows, Tells}
 
 -- the run of an image of a program over a plan
@@ -22,7 +25,7 @@ pub record IsOf (image : Image RvInstr) (program : First) (plan : Plan) (r : Run
 -- WHAT AN ENDED RUN TELLS, on a machine without buffers: the events, the source events that explain them, and the state after them
 pub record HasRun (r : RunState) : Type 0 where
   pub machine_schedule : r.machine.events ≡ events_of false r.plan
-  pub source_schedule : r.machine.sources ≡ explained_by r.machine.image r.program r.plan.entries (events_of false r.plan)
+  pub source_schedule : (counts : Entry → Bool) → r.machine.sources ≡ explain (rv_setting r.machine.image) given_of (tag_at r.machine.image.tags) counts (events_of false r.plan) (start_of r.machine.image r.program r.plan.entries)
   pub shows : Shows r.machine (run_of r.machine.image r.program r.plan.entries (events_of false r.plan))
 
 -- a reader's answer is that of each state which the run shows

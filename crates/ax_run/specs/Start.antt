@@ -1,15 +1,16 @@
 -- What a machine begins with.
-use Rattle.std.specs.Prelude.{ℕ, ◌+◌, ◌-◌, ◌*◌, ◌/◌, ◌%◌, ◌&&◌, if◌then◌else◌, nat_le, nat_lt, List, [], ◌∷◌, None, map, replicate, slice_index_or, slice_set}
+use Rattle.std.specs.Prelude.{false, ℕ, ◌+◌, ◌-◌, ◌*◌, ◌/◌, ◌%◌, ◌&&◌, if◌then◌else◌, nat_le, nat_lt, List, [], ◌∷◌, None, map, replicate, slice_index_or, slice_set}
 use Rattle.ax_store.specs.Bytes.{byte_of}
 use Rattle.ax_store.specs.Regions.{in_regions}
 use Rattle.ax_store.specs.Storage.{Storage}
 use Rattle.ax_isa.specs.declared.cpu.Cpu.{Cpu}
+use Rattle.ax_tags.specs.declared.tags.Role.TheVariants.{None as Outside}
 use Rattle.ax_isa.specs.declared.cpu.Status.TheVariants.{Running}
 use Rattle.ax_isa.specs.Run.{frame_base}
 
 -- a processor at a place, with its stack pointer, register 2
 abbrev pub first_cpu : ℕ → ℕ → Cpu
-first_cpu p place = record { regs = slice_set (replicate 32 0) 2 (frame_base p + 131064); place = place; status = Running }
+first_cpu p place = record { regs = slice_set (replicate 32 0) 2 (frame_base p + 131064); compared = (0, 0); half = false; place = place; status = Running; role = Outside }
 
 -- processors p, p + 1, .. at the places of these functions
 abbrev pub cpus_from : List ℕ → ℕ → List ℕ → List Cpu

@@ -2,16 +2,12 @@
 #![tactic(auto)]
 
 mod machine;
-pub mod run;
+mod run;
 mod start;
-mod steps;
 
 pub use ax_first::First;
-pub use ax_isa::{Event, Image, Status};
+pub use ax_isa::{Image, Status};
 pub use ax_lower::Lowered;
-pub use ax_ops::SourceEvent;
 pub use ax_sched::Plan;
+pub use ax_words::{Event, SourceEvent};
 pub use run::{Run, prepare};
-
-#[cfg(test)]
-mod tests;

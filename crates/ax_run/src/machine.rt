@@ -4,18 +4,16 @@ ghost use Rattle.std.specs.Prelude.{◌↔◌, ◌≡◌, ◌<◌, ◌≤◌, �
 ghost use Rattle.std.specs.List.{sum_by};
 ghost use Rattle.ax_store.specs.Storage.{drained, dropped};
 ghost use Rattle.ax_store.specs.Store.{storage_of};
-ghost use Rattle.ax_isa.specs.declared.events.Event.TheVariants.{Step as Steps, Drain as Drains, Drop as Drops};
-ghost use Rattle.ax_isa.specs.Run.{tag_at};
+ghost use Rattle.ax_words.specs.declared.event.Event.TheVariants.{Step as Steps, Drain as Drains, Drop as Drops};
 ghost use Rattle.ax_sched.specs.Events.{event_processor, item_events};
 ghost use Rattle.ax_sched.specs.Plan.{IsWithin, times_of};
 ghost use Rattle.ax_run.specs.Machine.{Advanced, GoesOn, IsReady, Kept, counted, cpu_in, passed, retired_in, stored};
 
-use crate::steps::{at_place, step};
-use ax_isa::{Cpu, Event, Image, Outcome, Status, Tag};
-use ax_ops::SourceEvent;
-use ax_rv::RvInstr;
+use ax_isa::{Cpu, Image, Shown, Status, step};
+use ax_rv::{Rv64, RvInstr};
 use ax_sched::{Item, event_at};
 use ax_store::Store;
+use ax_words::{Event, SourceEvent};
 use std::marker::Model;
 
 /// Processors and storage of a run. All memory is taken at the start, for as many events as there
@@ -68,29 +66,24 @@ impl<'a> Machine<'a> {
         requires { p < length self.now.processors }
         ensures { IsTrue result ↔ ((cpu_in self.now p).status ≡ Status.Running) }
     {
-        self.cpus[p as usize].status == Status::Running
-    }
-
-    /// The tag of the instruction at which a processor stands. A place without one is silent.
-    fn tag(&self, p: u8) -> Tag
-        requires { p < length self.now.processors }
-        ensures tag { result ≡ tag_at self.now.image.tags (cpu_in self.now p).place }
-        ensures ready { IsReady self.now }
-    {
-        match at_place(self.image.tags.as_slice(), self.cpus[p as usize].place) {
-            Some(tag) => tag,
-            None => Tag::Silent,
-        }
+        matches!(self.cpus[p as usize].status, Status::Running)
     }
 
     /// A step of processor p and of the storage.
-    fn advance(&mut self, p: u8) -> Outcome
+    fn advance(&mut self, p: u8) -> Shown
         requires { p < length self.old.processors }
-        ensures { Advanced p self.old self.new result }
+        ensures advanced { Advanced p self.old self.new result }
+        ensures ready { IsReady self.old }
     {
         let image = self.image;
         let c = &mut self.cpus[p as usize];
-        step(image.code.as_slice(), p, c, &mut self.store)
+        step::<Rv64>(
+            image.code.as_slice(),
+            image.tags.as_slice(),
+            p,
+            c,
+            &mut self.store,
+        )
     }
 
     /// Writes down an event that changed no processor.
@@ -121,17 +114,17 @@ impl<'a> Machine<'a> {
     }
 
     /// Writes down a step of a running processor.
-    fn count(&mut self, p: u8, tag: Tag, output: Option<u64>)
+    fn count(&mut self, p: u8, shown: Shown)
         requires room { 1 ≤ self.old.room }
         requires processor { p < length self.old.processors }
-        ensures { self.new ≡ counted p tag output self.old }
+        ensures { self.new ≡ counted p shown self.old }
     {
         self.retired[p as usize] += 1;
-        if let Some(number) = output {
+        if let Some(number) = shown.outcome.output {
             self.outputs.push_reserved((p, number));
         }
-        if let Tag::Act = tag {
-            self.sources.push_reserved(SourceEvent::Act(p));
+        if let Some(event) = shown.gives {
+            self.sources.push_reserved(event);
         }
         self.events.push_reserved(Event::Step(p));
         self.room -= 1;
@@ -147,9 +140,8 @@ impl<'a> Machine<'a> {
         ensures kept { Kept self.old self.new }
     {
         if self.is_running(p) {
-            let tag = self.tag(p);
-            let outcome = self.advance(p);
-            self.count(p, tag, outcome.output);
+            let shown = self.advance(p);
+            self.count(p, shown);
         } else {
             self.pass(Event::Step(p));
         }

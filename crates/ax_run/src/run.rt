@@ -7,16 +7,19 @@ ghost use Rattle.ax_lower.specs.Layout.{HasElement};
 ghost use Rattle.ax_first.specs.WellFormed.{IsFirst, IsWithinLimits};
 ghost use Rattle.ax_sched.specs.Plan.{IsPlan, times_of};
 ghost use Rattle.ax_lower.specs.Layout.{address_of};
-ghost use Rattle.ax_lower.specs.Sound.{IsSound};
+ghost use Rattle.ax_agree.specs.Agree.{native_entries};
+ghost use Rattle.ax_agree.specs.Sound.{IsSound};
+ghost use Rattle.ax_source_run.specs.SourceState.{SourceProgram};
+ghost use Rattle.ax_rv.specs.Instructions.{IsInstr, rv_kind};
 ghost use Rattle.ax_run.specs.Run.{HasRun, IsOf, Reads};
 
 use crate::machine::Machine;
 use crate::start::start;
 use ax_first::First;
-use ax_isa::{Event, Status};
+use ax_isa::Status;
 use ax_lower::Lowered;
-use ax_ops::SourceEvent;
 use ax_sched::{Item, Plan};
+use ax_words::{Event, SourceEvent};
 use std::alloc::{AllocError, Global};
 use std::marker::Model;
 
@@ -60,7 +63,8 @@ pub fn prepare<'a>(
 ) -> Result<Run<'a>, AllocError>
     requires program { IsFirst program.now }
     requires limits { IsWithinLimits program.now }
-    requires sound { IsSound (length program.now.functions) l.now.image }
+    requires sound { IsSound rv_kind IsInstr l.now.names l.now.image }
+    requires functions { length l.now.names ≡ length program.now.functions }
     requires plan { IsPlan (length program.now.functions) plan.now }
     ensures of { IfOk result (IsOf l.entry.now.image program.entry.now plan.entry.now) }
     ensures begins { IfOk result (λ r. r.ended ≡ false) }
@@ -137,10 +141,10 @@ impl<'a> Run<'a> {
         self.machine.cpus.len() as u8
     }
 
-    /// How many stores of a processor wait.
+    /// How many stores of a processor to native objects wait: none, as no store waits on RV64.
     pub fn pending(&self, p: u8) -> u64
         requires { p < length self.now.machine.processors }
-        ensures { Reads self.now (λ m. length (m.noted.storage.waiting p)) result }
+        ensures { (of : SourceProgram) → Reads self.now (λ m. length (native_entries of (m.noted.storage.waiting p))) result }
     {
         self.machine.store.pending(p) as u64
     }

@@ -5,13 +5,14 @@ ghost use Rattle.ax_store.specs.Regions.{IsFrameSize, IsProcessorCount};
 ghost use Rattle.ax_store.specs.Store.{processors, storage_of};
 ghost use Rattle.ax_first.specs.WellFormed.{AreEntries, IsFirst, IsWithinLimits};
 ghost use Rattle.ax_lower.specs.FirstLowers.{start_of};
-ghost use Rattle.ax_lower.specs.Sound.{IsSound};
+ghost use Rattle.ax_agree.specs.Sound.{HasFunctions, IsSoundCode};
+ghost use Rattle.ax_rv.specs.Instructions.{IsInstr, rv_kind};
 ghost use Rattle.ax_run.specs.Machine.{Tells};
 ghost use Rattle.ax_run.specs.Start.{cpus_from, first_cpu, frames_for, storage_with};
 
 use crate::machine::Machine;
 use ax_first::First;
-use ax_isa::{Cpu, Image, Status};
+use ax_isa::{Cpu, Image, Role, Status};
 use ax_rv::RvInstr;
 use ax_store::Store;
 use std::alloc::{AllocError, Global};
@@ -25,8 +26,11 @@ fn first_cpu(p: u64, place: u32) -> Cpu
     regs[2] = 0x100_0000 + 0x2_0000 * p + 0x1_fff8;
     Cpu {
         regs,
+        compared: (0, 0),
+        half: false,
         place,
         status: Status::Running,
+        role: Role::None,
     }
 }
 
@@ -80,7 +84,8 @@ pub(crate) fn start<'a>(
     entries: &[u32],
     events: u64,
 ) -> Result<Machine<'a>, AllocError>
-    requires sound { IsSound (length program.now.functions) image.now }
+    requires code { IsSoundCode rv_kind IsInstr image.now }
+    requires functions { HasFunctions (length program.now.functions) image.now }
     requires program { IsFirst program.now }
     requires limits { IsWithinLimits program.now }
     requires entries { AreEntries program.now entries.now }

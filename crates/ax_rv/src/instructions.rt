@@ -1,14 +1,9 @@
-//! RV64 instructions.
+//! The instructions of RV64.
 
-ghost use Rattle.std.specs.Prelude.{◌≡◌, ◌<◌, ◌+◌, ◌%◌, ◌^◌};
-ghost use Rattle.ax_isa.specs.Processor.{processor_of};
-ghost use Rattle.ax_rv.specs.Instructions.{IsInstr, rv_kind, read, displaced};
-
-use ax_isa::{Cpu, Effect, Isa};
-use ax_ops::RmwOp;
+use ax_words::RoutineName;
 
 /// The order ending of an instruction of the A extension.
-#[derive(Clone, Copy, Debug, PartialEq, Eq)]
+#[derive(Clone, Copy)]
 pub enum Ending {
     Plain,
     Acquire,
@@ -16,8 +11,15 @@ pub enum Ending {
     AcquireRelease,
 }
 
+/// The size of an access of the A extension: `.w` or `.d`.
+#[derive(Clone, Copy)]
+pub enum Size {
+    Word,
+    Double,
+}
+
 /// The predecessor and successor sets of a fence.
-#[derive(Clone, Copy, Debug, PartialEq, Eq)]
+#[derive(Clone, Copy)]
 pub enum FenceSets {
     /// `r,rw`
     ReadBeforeAll,
@@ -25,37 +27,164 @@ pub enum FenceSets {
     AllBeforeWrite,
     /// `rw,rw`
     AllBeforeAll,
+    /// `fence.tso`
+    TotalStoreOrder,
 }
 
-/// An instruction. Registers are named by their numbers, 0 to 31, where register 0 reads as 0;
-/// a displacement is from -2,048 to 2,047.
-#[derive(Clone, Copy, Debug, PartialEq, Eq)]
+/// Of one register: `mv`, `neg`, `not`, `sext.w`, `seqz`, `snez`.
+#[derive(Clone, Copy)]
+pub enum Unary {
+    Move,
+    Negate,
+    Not,
+    SignExtendWord,
+    IsZero,
+    IsNotZero,
+}
+
+/// Of two registers: `add`, `sub`, `and`, `or`, `xor`, `mul`, `sll`, `srl`, `sra`, `slt`, `sltu`.
+#[derive(Clone, Copy)]
+pub enum Binary {
+    Add,
+    Subtract,
+    And,
+    Or,
+    Xor,
+    Multiply,
+    ShiftLeft,
+    ShiftRight,
+    ShiftRightSigned,
+    IsLess,
+    IsBelow,
+}
+
+/// Of a register and an amount from 0 to 63: `slli`, `srli`, `srai`.
+#[derive(Clone, Copy)]
+pub enum Shift {
+    Left,
+    Right,
+    RightSigned,
+}
+
+/// Of a register and a number from -2,048 to 2,047: `andi`, `addi`.
+#[derive(Clone, Copy)]
+pub enum Immediate {
+    And,
+    Add,
+}
+
+/// `lbu`, `lhu`, `lw`, `ld`.
+#[derive(Clone, Copy)]
+pub enum LoadForm {
+    Byte,
+    Half,
+    Word,
+    Double,
+}
+
+/// `sb`, `sh`, `sw`, `sd`.
+#[derive(Clone, Copy)]
+pub enum StoreForm {
+    Byte,
+    Half,
+    Word,
+    Double,
+}
+
+/// `amoswap`, `amoadd`, `amoand`, `amoor`, `amoxor`, `amomax`, `amomin`, `amomaxu`, `amominu`.
+#[derive(Clone, Copy)]
+pub enum Amo {
+    Swap,
+    Add,
+    And,
+    Or,
+    Xor,
+    Max,
+    Min,
+    MaxUnsigned,
+    MinUnsigned,
+}
+
+/// `beq`, `bne`, `blt`, `bge`, `bltu`, `bgeu`.
+#[derive(Clone, Copy)]
+pub enum Condition {
+    Equal,
+    NotEqual,
+    Less,
+    GreaterEqual,
+    Below,
+    AboveEqual,
+}
+
+/// An instruction. Registers are named by their numbers, 0 to 31, where register 0 reads as 0; a
+/// displacement is from -2,048 to 2,047; the distance of a jump is from its own place.
+#[derive(Clone, Copy)]
 pub enum RvInstr {
     /// `li rd, n`
     Li {
         rd: u8,
         n: u64,
     },
-    /// `add rd, rs1, rs2`
-    Add {
+    /// `op rd, rs`
+    Unary {
+        op: Unary,
+        rd: u8,
+        rs: u8,
+    },
+    /// `op rd, rs1, rs2`
+    Binary {
+        op: Binary,
         rd: u8,
         rs1: u8,
         rs2: u8,
     },
-    /// `ld rd, d(rs1)`
-    Ld {
+    /// `op rd, rs, k`
+    Shift {
+        op: Shift,
+        rd: u8,
+        rs: u8,
+        k: u8,
+    },
+    /// `op rd, rs, n`
+    Immediate {
+        op: Immediate,
+        rd: u8,
+        rs: u8,
+        n: i16,
+    },
+    /// `op rd, d(rs1)`
+    Load {
+        form: LoadForm,
         rd: u8,
         d: i16,
         rs1: u8,
     },
-    /// `sd rs2, d(rs1)`
-    Sd {
+    /// `op rs2, d(rs1)`
+    Store {
+        form: StoreForm,
         rs2: u8,
         d: i16,
         rs1: u8,
     },
-    /// `amoadd.d rd, rs2, (rs1)` with its order ending
-    AmoAdd {
+    /// `lr rd, (rs1)` with its size and order ending
+    LoadReserved {
+        size: Size,
+        ending: Ending,
+        rd: u8,
+        rs1: u8,
+    },
+    /// `sc rd, rs2, (rs1)` with its size and order ending
+    StoreConditional {
+        size: Size,
+        ending: Ending,
+        rd: u8,
+        rs2: u8,
+        rs1: u8,
+    },
+    /// `amo rd, rs2, (rs1)` with its size and order ending
+    Amo {
+        op: Amo,
+        size: Size,
         ending: Ending,
         rd: u8,
         rs2: u8,
@@ -63,70 +192,28 @@ pub enum RvInstr {
     },
     /// `fence`, which does nothing on a machine with one flat memory
     Fence(FenceSets),
+    /// `j`
+    Jump {
+        distance: i32,
+    },
+    /// `jal ra` to the code of a routine
+    Call {
+        routine: RoutineName,
+        place: u32,
+    },
     /// `ret`
     Ret,
+    /// `op rs1, rs2`, and the place that it goes to
+    Branch {
+        condition: Condition,
+        rs1: u8,
+        rs2: u8,
+        distance: i32,
+    },
     /// `ecall`, which puts out register 10
     Ecall,
-}
-
-/// A register's number.
-fn read(cpu: &Cpu, r: u8) -> u64
-    ensures { result ≡ read r (processor_of cpu.now) }
-{
-    if r == 0 {
-        return 0;
-    }
-    match cpu.regs.get(r as usize) {
-        Some(number) => *number,
-        None => 0,
-    }
-}
-
-/// An address with its displacement, mod 2^64.
-fn displaced(address: u64, d: i16) -> u64
-    ensures { result ≡ displaced address d }
-{
-    address.wrapping_add_signed(d as i64)
-}
-
-impl Isa for RvInstr {
-    ghost kind = { rv_kind };
-
-    ghost valid = { IsInstr };
-
-    fn effect(&self, cpu: &Cpu) -> Effect {
-        match *self {
-            RvInstr::Li { rd, n } => Effect::Set { to: rd, number: n },
-            RvInstr::Add { rd, rs1, rs2 } => Effect::Set {
-                to: rd,
-                number: read(cpu, rs1).wrapping_add(read(cpu, rs2)),
-            },
-            RvInstr::Ld { rd, d, rs1 } => Effect::Load {
-                to: rd,
-                address: displaced(read(cpu, rs1), d),
-                bytes: 8,
-                signed: false,
-            },
-            RvInstr::Sd { rs2, d, rs1 } => Effect::Store {
-                address: displaced(read(cpu, rs1), d),
-                bytes: 8,
-                number: read(cpu, rs2),
-            },
-            RvInstr::AmoAdd { rd, rs2, rs1, .. } => Effect::Locked {
-                to: rd,
-                address: read(cpu, rs1),
-                bytes: 8,
-                op: RmwOp::Add,
-                number: read(cpu, rs2),
-                signed: false,
-            },
-            RvInstr::Fence(_) => Effect::Nop,
-            RvInstr::Ret => Effect::Return {
-                place: read(cpu, 1),
-            },
-            RvInstr::Ecall => Effect::Output {
-                number: read(cpu, 10),
-            },
-        }
-    }
+    /// `ebreak`, a trap
+    Ebreak,
+    /// `nop`
+    Nop,
 }

@@ -1,14 +1,14 @@
 -- What the reader's answer says of a text and its module.
-use Rattle.std.proofs.Common.{◌≡◌, ◌≢◌, ℕ, ◌<◌, arith, Bool, true, false, not, List, [], ◌∷◌, ◌++◌, length, map, All, AllPairs, Result, Ok, Err, IfOk, refl, sym, ap, subst, ◌∙◌}
+use Rattle.std.proofs.Common.{◌≡◌, ◌≢◌, ℕ, ◌^◌, ◌<◌, arith, Bool, true, false, not, List, [], ◌∷◌, ◌++◌, length, map, All, AllPairs, Result, Ok, Err, IfOk, refl, sym, ap, subst, ◌∙◌}
 use Rattle.std.specs.Prelude.{◌&&◌, ◌||◌, MatchResult, nat_eq}
 use Rattle.std.specs.List.{list_all, list_any}
 use Rattle.std.specs.Cmp.Lexicographic.{pointwise}
-use Rattle.std.proofs.lemmas.Bool.{and_parts, both_ways, not-true}
+use Rattle.std.proofs.lemmas.Bool.{and_parts, both_ways, not-true, ltb-true}
 use Rattle.std.proofs.lemmas.Slice.Eq.{bytes_eq-Decides}
 use Rattle.std.proofs.lemmas.List.Elements.{All-nil, All-cons}
 use Rattle.std.proofs.lemmas.List.Kept.{AllPairs-cons}
-use Rattle.ax_ir.specs.declared.module.Module.{Module}
-use Rattle.ax_ir.specs.WellFormed.{is_global, is_function, all_differ, names_of, IsModule}
+use Rattle.ax_module.specs.declared.module.Module.{Module}
+use Rattle.ax_module.specs.WellFormed.{is_global, is_function, all_differ, names_of, is_count, is_function_counted, IsModule}
 use Rattle.ax_sched.specs.declared.plan.Plan.{Plan}
 use Rattle.ax_sched.specs.declared.fault.Cause.{Cause}
 use Rattle.ax_sched.specs.declared.fault.SchedFault.{SchedFault}
@@ -52,6 +52,11 @@ functions_differ m h =
     let a = and_parts (all_differ (names_of m) && list_all is_global m.globals) (list_all (is_function (length m.globals)) m.functions) h.formed in
     let b = and_parts (all_differ (names_of m)) (list_all is_global m.globals) a.0 in
     all_apart (function_names m) (rest_differ (map (λ g. g.name) m.globals) (function_names m) b.0)
+
+pub functions_few : (m : Module) → IsModule m → length m.functions < 2 ^ 32
+functions_few m h =
+    let a = and_parts (is_count (length m.globals) && is_count (length m.functions)) (list_all is_function_counted m.functions) h.counts in
+    ltb-true (length m.functions) (2 ^ 32) (and_parts (is_count (length m.globals)) (is_count (length m.functions)) a.0).1
 
 -- ---- answers
 

@@ -6,8 +6,8 @@ use Rattle.std.proofs.lemmas.List.{length-replicate, take_all, take_more}
 use Rattle.std.proofs.lemmas.List.Concat.{get_or-flat_map}
 use Rattle.std.proofs.lemmas.List.FromFn.{length-range_with_len, get_or-range_with_len, length-map-range_with_len, get_or-map-range_with_len}
 use Rattle.std.proofs.lemmas.List.Sums.{sum_by-cons}
-use Rattle.ax_isa.specs.declared.events.Event.{Event}
-use Rattle.ax_isa.specs.declared.events.Event.TheVariants as event
+use Rattle.ax_words.specs.declared.event.Event.{Event}
+use Rattle.ax_words.specs.declared.event.Event.TheVariants as event
 use Rattle.ax_sched.specs.declared.plan.Item.{Item}
 use Rattle.ax_sched.specs.declared.plan.Item.TheVariants.{Step, Drain, Drop, Round}
 use Rattle.ax_sched.specs.Plan.{times_of}

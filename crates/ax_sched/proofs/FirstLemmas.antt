@@ -13,7 +13,8 @@ use Rattle.ax_lex.specs.declared.token.TokenKind.TheVariants.{Global}
 use Rattle.ax_lex.specs.Tokens.{is_token}
 use Rattle.ax_sched.specs.declared.fault.Cause.{Cause}
 use Rattle.ax_sched.specs.declared.fault.Cause.TheVariants.{Syntax, ProcessorRange, UnknownEntry, UnknownObject, TooMany}
-use Rattle.ax_sched.specs.Schedule.{IsGlobal, name_in, IsEntry, AreEntries, IsFirstLine, IsCount, IsFirstCause}
+use Rattle.ax_lex.specs.Names.{name_in}
+use Rattle.ax_sched.specs.Schedule.{IsGlobal, IsEntry, AreEntries, IsFirstLine, IsCount, IsFirstCause}
 use Rattle.ax_sched.specs.Reading.{or_cause, entry_of, entries_from, is_first_line, is_count, counted_entries, first_of}
 
 -- ---- what may stop

@@ -1,14 +1,15 @@
 -- A word is read as a number exactly where it is how that number is written.
 use Rattle.std.proofs.Common.{◌≡◌, ℕ, zero, suc, ◌+◌, ◌*◌, ◌-◌, ◌^◌, ◌<◌, ◌≤◌, arith, rules, lit<, true, false, List, [], ◌∷◌, length, get_or, Some, refl, sym, ap, subst, ◌∙◌, inl, inr}
-use Rattle.std.specs.Prelude.{◌==◌, ◌&&◌, nat_lt}
+use Rattle.std.specs.Prelude.{◌==◌, ◌&&◌, nat_lt, nat_le}
 use Rattle.std.specs.List.{list_all}
 use Rattle.std.specs.Fmt.{decimal}
-use Rattle.std.proofs.lemmas.Bool.{cases_Bool, and_parts, and_from, eq-eqb, eqb-true, ltb-true, lt-ltb, both_ways}
+use Rattle.std.proofs.lemmas.Bool.{cases_Bool, and_parts, and_from, eq-eqb, eqb-true, ltb-true, lt-ltb, leb-true, le-leb, both_ways}
 use Rattle.std.proofs.lemmas.Option.{same_Some}
 use Rattle.std.proofs.lemmas.Fmt.{decimal_digit, decimal_nonempty, first_decimal, digits_decimal, digits_value-decimal, decimal-digits_value}
 use Rattle.std.proofs.lemmas.Str.Parse.{IsNumeralModel, numerals_by_fold}
 use Rattle.ax_lex.specs.Bytes.{is_digit}
-use Rattle.ax_sched.specs.Reading.{number_from, number_of}
+use Rattle.ax_lex.specs.Numbers.{number_from}
+use Rattle.ax_sched.specs.Reading.{number_of}
 
 abbrev value_from : ℕ → List ℕ → ℕ
 value_from n [] = n
@@ -21,23 +22,23 @@ value_from-ge : (n : ℕ) (ds : List ℕ) → n ≤ value_from n ds
 value_from-ge n [] = omega arith
 value_from-ge n (b ∷ bs) = omega (arith, value_from-ge (10 * n + (b - 48)) bs)
 
-number_from_found : (n : ℕ) (ds : List ℕ) (m : ℕ) → n < 2 ^ 64 → number_from n ds ≡ Some m → (list_all is_digit ds ≡ true) × (value_from n ds ≡ m) × (m < 2 ^ 64)
+number_from_found : (n : ℕ) (ds : List ℕ) (m : ℕ) → n < 2 ^ 64 → number_from (2 ^ 64 - 1) n ds ≡ Some m → (list_all is_digit ds ≡ true) × (value_from n ds ≡ m) × (m < 2 ^ 64)
 number_from_found n [] m h e = let same : n ≡ m = same_Some n m e in (refl, same, subst (λ (x : ℕ). x < 2 ^ 64) same h)
 number_from_found n (b ∷ bs) m h e =
-    elim (cases_Bool (is_digit b && nat_lt (10 * n + (b - 48)) (2 ^ 64))) [
+    elim (cases_Bool (is_digit b && nat_le (10 * n + (b - 48)) (2 ^ 64 - 1))) [
       | inl good ↦
-          let p = and_parts (is_digit b) (nat_lt (10 * n + (b - 48)) (2 ^ 64)) good in
-          let r = number_from_found (10 * n + (b - 48)) bs m (ltb-true (10 * n + (b - 48)) (2 ^ 64) p.1) (rw good at e) in
+          let p = and_parts (is_digit b) (nat_le (10 * n + (b - 48)) (2 ^ 64 - 1)) good in
+          let r = number_from_found (10 * n + (b - 48)) bs m (omega (arith, leb-true (10 * n + (b - 48)) (2 ^ 64 - 1) p.1)) (rw good at e) in
           (and_from (is_digit b) (list_all is_digit bs) p.0 r.0, r.1, r.2)
       | inr bad ↦ let f = rw bad at e in absurd cc
     ]
 
-number_from_all : (n : ℕ) (ds : List ℕ) → list_all is_digit ds ≡ true → value_from n ds < 2 ^ 64 → number_from n ds ≡ Some (value_from n ds)
+number_from_all : (n : ℕ) (ds : List ℕ) → list_all is_digit ds ≡ true → value_from n ds < 2 ^ 64 → number_from (2 ^ 64 - 1) n ds ≡ Some (value_from n ds)
 number_from_all n [] h lt = refl
 number_from_all n (b ∷ bs) h lt =
     let a = and_parts (is_digit b) (list_all is_digit bs) h in
-    let small : 10 * n + (b - 48) < 2 ^ 64 = omega (arith, value_from-ge (10 * n + (b - 48)) bs) in
-    let test = and_from (is_digit b) (nat_lt (10 * n + (b - 48)) (2 ^ 64)) a.0 (lt-ltb (10 * n + (b - 48)) (2 ^ 64) small) in
+    let small : 10 * n + (b - 48) ≤ 2 ^ 64 - 1 = omega (arith, value_from-ge (10 * n + (b - 48)) bs) in
+    let test = and_from (is_digit b) (nat_le (10 * n + (b - 48)) (2 ^ 64 - 1)) a.0 (le-leb (10 * n + (b - 48)) (2 ^ 64 - 1) small) in
     rw test (number_from_all (10 * n + (b - 48)) bs a.1 lt)
 
 alone : (b : ℕ) (bs : List ℕ) → (b == 48 && nat_lt 0 (length bs)) ≡ false → b ≡ 48 → length (b ∷ bs) ≡ 1

@@ -1,14 +1,14 @@
 -- Words of a line, found from its front.
-use Rattle.std.proofs.Common.{◌≡◌, ℕ, suc, ◌+◌, ◌-◌, ◌<◌, ◌≤◌, Bool, true, false, not, List, [], ◌∷◌, ◌++◌, length, get_or, take, drop, refl, sym, ap, ◌∙◌, subst, inl, inr, arith, append_assoc, append-nil, add-one, drop-cons, length-drop}
+use Rattle.std.proofs.Common.{◌≡◌, ℕ, suc, ◌+◌, ◌-◌, ◌<◌, ◌≤◌, Bool, true, false, not, List, [], ◌∷◌, ◌++◌, length, get_or, take, drop, refl, sym, ap, ◌∙◌, subst, inl, inr, arith, append_assoc, append-nil, one-add, add-one, drop-cons, length-drop}
 use Rattle.std.specs.Prelude.{◌==◌, ◌&&◌}
-use Rattle.std.specs.List.{filter, list_all}
+use Rattle.std.specs.List.{filter, prefix_len}
 use Rattle.std.proofs.lemmas.Bool.{cases_Bool, and_parts}
 use Rattle.std.proofs.lemmas.Bool.Decides.{nat_tests}
 use Rattle.std.proofs.lemmas.List.{take_more}
 use Rattle.std.proofs.lemmas.Grind.{common_steps}
 use Rattle.ax_lex.specs.Bytes.{is_blank}
-use Rattle.ax_sched.specs.Lines.{onto, turned, pieces, is_nonempty, words_of, are_none}
-use Rattle.ax_sched.specs.Reading.{ended, words_from}
+use Rattle.ax_sched.specs.Lines.{onto, turned, pieces, is_nonempty, words_of, state_nothing}
+use Rattle.ax_sched.specs.Reading.{ended, words_from, begins_no_word}
 
 -- a front before the first piece
 abbrev before_first : List ℕ → List (List ℕ) → List (List ℕ)
@@ -55,27 +55,19 @@ ended_append : (w : List ℕ) (ws : List (List ℕ)) → ended w ws ≡ ended w 
 ended_append [] ws = refl
 ended_append (b ∷ bs) ws = refl
 
--- ---- no words
+-- ---- lines that are passed over
 
-some_word : (c : ℕ) (cs : List ℕ) (q : Bool) (bs : List ℕ) → are_none (words_from (c ∷ cs) q bs) ≡ false
-some_word c cs q [] = refl
-some_word c cs q (b ∷ bs) =
-    elim (cases_Bool (is_blank b && not q)) [
-      | inl yes' ↦ rw yes' refl
-      | inr no' ↦ rw no' (some_word c (cs ++ b ∷ []) (turned b q) bs)
-    ]
+first_word : (b : ℕ) (ps : List (List ℕ)) → state_nothing (filter is_nonempty (onto b ps)) ≡ (b == 35)
+first_word b [] = refl
+first_word b (w ∷ ws) = refl
 
-blanks_alone : (bs : List ℕ) → are_none (words_from [] false bs) ≡ list_all is_blank bs
-blanks_alone [] = refl
-blanks_alone (b ∷ bs) =
+pub passed_over : (line : List ℕ) → begins_no_word (drop (prefix_len is_blank line) line) ≡ state_nothing (words_of line)
+passed_over [] = refl
+passed_over (b ∷ bs) =
     elim (cases_Bool (is_blank b)) [
-      | inl yes' ↦ rw yes' (blanks_alone bs)
-      | inr no' ↦ rw no' (some_word b [] (turned b false) bs)
+      | inl yes' ↦ rw (yes', one-add) (passed_over bs)
+      | inr no' ↦ rw no' (sym (first_word b (pieces (turned b false) bs)))
     ]
-
--- a line has no words exactly where it has blanks alone
-pub no_words : (line : List ℕ) → are_none (words_of line) ≡ list_all is_blank line
-no_words line = ap are_none (sym (words_found line)) ∙ blanks_alone line
 
 -- ---- from byte to byte
 

@@ -1,8 +1,8 @@
 -- The events that directives make.
 use Rattle.std.specs.Prelude.{ℕ, ◌*◌, ◌/◌, ◌%◌, ◌==◌, Bool, if◌then◌else◌, List, [], ◌∷◌, length, map, replicate, slice_index_or}
 use Rattle.std.specs.List.{flat_map, range_with_len}
-use Rattle.ax_isa.specs.declared.events.Event.{Event}
-use Rattle.ax_isa.specs.declared.events.Event.TheVariants as event
+use Rattle.ax_words.specs.declared.event.Event.{Event}
+use Rattle.ax_words.specs.declared.event.Event.TheVariants as event
 use Rattle.ax_sched.specs.declared.plan.Item.{Item}
 use Rattle.ax_sched.specs.declared.plan.Item.TheVariants.{Step, Drain, Drop, Round}
 use Rattle.ax_sched.specs.declared.plan.Plan.{Plan}

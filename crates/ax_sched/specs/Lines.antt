@@ -1,5 +1,5 @@
 -- The lines of a schedule and their words.
-use Rattle.std.specs.Prelude.{ℕ, ◌+◌, Bool, true, false, not, ◌&&◌, ◌||◌, ◌==◌, if◌then◌else◌, List, [], ◌∷◌}
+use Rattle.std.specs.Prelude.{ℕ, ◌+◌, Bool, true, false, not, ◌&&◌, ◌==◌, if◌then◌else◌, List, [], ◌∷◌}
 use Rattle.std.specs.List.{filter, slice_split}
 use Rattle.ax_lex.specs.Bytes.{is_blank}
 
@@ -33,13 +33,13 @@ abbrev pub begins_hash : List ℕ → Bool
 begins_hash [] = false
 begins_hash (b ∷ bs) = b == 35
 
-abbrev pub are_none : List (List ℕ) → Bool
-are_none [] = true
-are_none (w ∷ ws) = false
+-- no words, or a comment: the first word begins with `#`
+abbrev pub state_nothing : List (List ℕ) → Bool
+state_nothing [] = true
+state_nothing (w ∷ ws) = begins_hash w
 
--- a comment, or a line without words
 abbrev pub is_passed_over : List ℕ → Bool
-is_passed_over line = begins_hash line || are_none (words_of line)
+is_passed_over line = state_nothing (words_of line)
 
 -- the lines that are not passed over, each with its number, where the first has number n
 abbrev pub kept_from : ℕ → List (List ℕ) → List (ℕ × List ℕ)

@@ -1,7 +1,7 @@
 -- Plans of a module.
 use Rattle.std.specs.Prelude.{ℕ, ◌<◌, ◌≤◌, length, All}
 use Rattle.std.specs.List.{sum_by}
-use Rattle.ax_ir.specs.declared.module.Module.{Module}
+use Rattle.ax_module.specs.declared.module.Module.{Module}
 use Rattle.ax_sched.specs.declared.plan.Item.{Item}
 use Rattle.ax_sched.specs.declared.plan.Item.TheVariants.{Step, Drain, Drop, Round}
 use Rattle.ax_sched.specs.declared.plan.Plan.{Plan}

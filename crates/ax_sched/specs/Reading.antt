@@ -1,11 +1,13 @@
 -- What the reader's own functions give; no public clause names them.
-use Rattle.std.specs.Prelude.{◌≡◌, ℕ, ◌+◌, ◌*◌, ◌-◌, ◌^◌, Bool, false, not, ◌&&◌, ◌==◌, nat_eq, nat_le, nat_lt, if◌then◌else◌, List, [], ◌∷◌, ◌++◌, length, codes, Option, Some, None, option_map, position, Result, Ok, Err}
+use Rattle.std.specs.Prelude.{◌≡◌, ℕ, ◌+◌, ◌*◌, ◌-◌, ◌^◌, Bool, true, false, not, ◌&&◌, ◌==◌, nat_eq, nat_le, nat_lt, if◌then◌else◌, List, [], ◌∷◌, ◌++◌, length, codes, Option, Some, None, option_map, position, Result, Ok, Err}
 use Rattle.std.specs.List.{list_all}
 use Rattle.std.specs.Option.{option_and_then}
 use Rattle.std.specs.Cmp.Lexicographic.{pointwise}
 use Rattle.ax_lex.specs.declared.token.TokenKind.TheVariants.{Global}
-use Rattle.ax_lex.specs.Bytes.{is_blank, is_digit}
-use Rattle.ax_lex.specs.Tokens.{is_token, is_empty}
+use Rattle.ax_lex.specs.Bytes.{is_blank}
+use Rattle.ax_lex.specs.Names.{name_in}
+use Rattle.ax_lex.specs.Numbers.{number_of as decimal_of}
+use Rattle.ax_lex.specs.Tokens.{is_token}
 use Rattle.ax_sched.specs.declared.plan.Item.{Item}
 use Rattle.ax_sched.specs.declared.plan.Item.TheVariants.{Step, Drain, Drop, Round}
 use Rattle.ax_sched.specs.declared.plan.Plan.{Plan}
@@ -16,23 +18,17 @@ use Rattle.ax_sched.specs.declared.fault.Cause.{Cause}
 use Rattle.ax_sched.specs.declared.fault.Cause.TheVariants.{Syntax, ProcessorRange, UnknownEntry, TooMany}
 use Rattle.ax_sched.specs.declared.fault.SchedFault.{SchedFault}
 use Rattle.ax_sched.specs.declared.fault.SchedFault.TheVariants.{Bad, Memory}
-use Rattle.ax_sched.specs.declared.fault.Stop.{Stop}
-use Rattle.ax_sched.specs.declared.fault.Stop.TheVariants as stop
+use Rattle.ax_sched.specs.declared.fault.ScheduleStop.{ScheduleStop}
+use Rattle.ax_sched.specs.declared.fault.ScheduleStop.TheVariants as stop
 use Rattle.ax_sched.specs.Plan.{times_of}
 use Rattle.ax_sched.specs.Lines.{turned, words_of}
-use Rattle.ax_sched.specs.Schedule.{name_in}
 
--- the answer of a function, seen so, is what is read
-abbrev pub Gives : {X Y : Type 0} → (X → Y) → Option X → Option Y → Type 0
-Gives view None read = read ≡ None
-Gives view (Some x) read = read ≡ Some (view x)
-
-abbrev pub StopsAs : {Y : Type 0} → Stop → Result Y Cause → Type 0
+abbrev pub StopsAs : {Y : Type 0} → ScheduleStop → Result Y Cause → Type 0
 StopsAs stop.Memory read = Unit {0}
 StopsAs (stop.Bad c) read = read ≡ Err c
 
--- the same, unless memory ran out
-abbrev pub ReadsAs : {X Y : Type 0} → (X → Y) → Result X Stop → Result Y Cause → Type 0
+-- what a function answers, seen by view, is what is read, unless memory ran out
+abbrev pub ReadsAs : {X Y : Type 0} → (X → Y) → Result X ScheduleStop → Result Y Cause → Type 0
 ReadsAs view (Ok x) read = read ≡ Ok (view x)
 ReadsAs view (Err e) read = StopsAs e read
 
@@ -45,7 +41,7 @@ abbrev pub AnswersAs : {X Y : Type 0} → (X → Y) → Result X SchedFault → 
 AnswersAs view (Ok x) read = read ≡ Ok (view x)
 AnswersAs view (Err e) read = FaultsAs e read
 
-abbrev pub fault_at : ℕ → Stop → SchedFault
+abbrev pub fault_at : ℕ → ScheduleStop → SchedFault
 fault_at line (stop.Bad cause) = Bad line cause
 fault_at line stop.Memory = Memory
 
@@ -78,23 +74,19 @@ abbrev pub words_from : List ℕ → Bool → List ℕ → List (List ℕ)
 words_from word quoted [] = ended word []
 words_from word quoted (b ∷ bs) = if is_blank b && not quoted then ended word (words_from [] quoted bs) else words_from (word ++ b ∷ []) (turned b quoted) bs
 
+-- nothing, or a comment
+abbrev pub begins_no_word : List ℕ → Bool
+begins_no_word [] = true
+begins_no_word (b ∷ bs) = b == 35
+
 -- ---- numbers
 
 -- a number below 2 ^ 64 without leading zeros
-abbrev pub number_from : ℕ → List ℕ → Option ℕ
-number_from n [] = Some n
-number_from n (b ∷ bs) = if is_digit b && nat_lt (10 * n + (b - 48)) (2 ^ 64) then number_from (10 * n + (b - 48)) bs else None
-
 abbrev pub number_of : List ℕ → Option ℕ
 number_of [] = None
-number_of (b ∷ bs) = if b == 48 && nat_lt 0 (length bs) then None else number_from 0 (b ∷ bs)
+number_of (b ∷ bs) = if b == 48 && nat_lt 0 (length bs) then None else decimal_of (2 ^ 64 - 1) (b ∷ bs)
 
 -- ---- the first line
-
--- a quote alone
-abbrev pub is_quote : List ℕ → Bool
-is_quote [] = false
-is_quote (b ∷ bs) = b == 34 && is_empty bs
 
 abbrev pub entry_of : List (List ℕ) → List ℕ → Option ℕ
 entry_of functions word = if is_token Global word then position (λ f. pointwise nat_eq f (name_in word)) functions else None

@@ -1,9 +1,10 @@
 -- Which texts are schedules of a plan, and which line of another text is its first bad one.
-use Rattle.std.specs.Prelude.{◌≡◌, ℕ, ◌+◌, ◌-◌, ◌<◌, ◌≤◌, ◌^◌, ◌==◌, if◌then◌else◌, true, List, [], ◌∷◌, ◌++◌, length, take, map, codes, slice_index_or, decimal, All, ◌⊎◌}
+use Rattle.std.specs.Prelude.{◌≡◌, ℕ, ◌+◌, ◌<◌, ◌≤◌, ◌^◌, true, List, [], ◌∷◌, ◌++◌, length, map, codes, slice_index_or, decimal, All, ◌⊎◌}
 use Rattle.std.specs.List.{sum_by}
 use Rattle.ax_lex.specs.declared.token.TokenKind.TheVariants.{Global}
+use Rattle.ax_lex.specs.Names.{name_in}
 use Rattle.ax_lex.specs.Tokens.{is_token}
-use Rattle.ax_ir.specs.declared.module.Module.{Module}
+use Rattle.ax_module.specs.declared.module.Module.{Module}
 use Rattle.ax_sched.specs.declared.plan.Item.{Item}
 use Rattle.ax_sched.specs.declared.plan.Item.TheVariants.{Step, Drain, Drop, Round}
 use Rattle.ax_sched.specs.declared.plan.Plan.{Plan}
@@ -15,16 +16,6 @@ use Rattle.ax_sched.specs.Plan.{IsPlan, IsWithin, times_of}
 use Rattle.ax_sched.specs.Lines.{lines_of, words_of, kept_lines}
 
 -- ---- the first line
-
--- a name in quotes equals the same name without them
-abbrev pub unquoted : List ℕ → List ℕ
-unquoted [] = []
-unquoted (b ∷ bs) = if b == 34 then take (length bs - 1) bs else b ∷ bs
-
--- the name that a Global token is, behind its `@`
-abbrev pub name_in : List ℕ → List ℕ
-name_in [] = []
-name_in (b ∷ bs) = unquoted bs
 
 abbrev pub IsGlobal : List ℕ → Type 0
 IsGlobal word = is_token Global word ≡ true

@@ -1,12 +1,12 @@
 //! The events of directives, one by one.
 
 ghost use Rattle.std.specs.Prelude.{◌≡◌, ◌<◌, ◌≤◌, slice_index_or};
-ghost use Rattle.ax_isa.specs.declared.events.Event.TheVariants.{Step as Steps};
+ghost use Rattle.ax_words.specs.declared.event.Event.TheVariants.{Step as Steps};
 ghost use Rattle.ax_sched.specs.Plan.{IsWithin, times_of};
 ghost use Rattle.ax_sched.specs.Events.{event_processor, item_events, cycle_event};
 
 use crate::plan::Item;
-use ax_isa::Event;
+use ax_words::Event;
 
 /// An event of a cycle: each processor's Step in turn, and with buffers two Drains behind it.
 fn cycle_at(processors: u8, buffered: bool, k: u64) -> Event

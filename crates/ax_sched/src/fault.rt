@@ -1,13 +1,13 @@
 //! Why a text is no schedule.
 
 ghost use Rattle.ax_sched.specs.declared.fault.SchedFault.TheVariants.{Memory};
-ghost use Rattle.ax_sched.specs.declared.fault.Stop.TheVariants as stop;
+ghost use Rattle.ax_sched.specs.declared.fault.ScheduleStop.TheVariants as stop;
 
 use std::alloc::{AllocError, AllocFailed};
 use thiserror::Error;
 
 /// What is wrong with a line. Of several causes on one line the first in this order counts.
-#[derive(Clone, Copy, Debug, PartialEq, Eq)]
+#[derive(Clone, Copy, Debug)]
 pub enum Cause {
     /// It is no line of a schedule in its place.
     Syntax,
@@ -22,7 +22,7 @@ pub enum Cause {
 }
 
 /// Why a text is no schedule. Lines are counted from 1.
-#[derive(Clone, Copy, Debug, PartialEq, Eq, Error)]
+#[derive(Clone, Copy, Debug, Error)]
 pub enum SchedFault {
     /// The first bad line, and what is wrong with it.
     #[error("line {line} of the schedule is bad: {cause:?}")]
@@ -54,37 +54,37 @@ impl<T: Drop> From<AllocFailed<T>> for SchedFault {
 
 /// Why a line isn't read.
 #[derive(Clone, Copy, Drop)]
-pub enum Stop {
+pub enum ScheduleStop {
     Bad(Cause),
     Memory,
 }
 
-impl From<Cause> for Stop {
+impl From<Cause> for ScheduleStop {
     ghost use Rattle.std.specs.Prelude.{◌≡◌};
 
     ghost from_gives = { λ c e. e ≡ stop.Bad c };
 
-    fn from(cause: Cause) -> Stop {
-        Stop::Bad(cause)
+    fn from(cause: Cause) -> ScheduleStop {
+        ScheduleStop::Bad(cause)
     }
 }
 
-impl From<AllocError> for Stop {
+impl From<AllocError> for ScheduleStop {
     ghost use Rattle.std.specs.Prelude.{◌≡◌};
 
     ghost from_gives = { λ _ e. e ≡ stop.Memory };
 
-    fn from(_e: AllocError) -> Stop {
-        Stop::Memory
+    fn from(_e: AllocError) -> ScheduleStop {
+        ScheduleStop::Memory
     }
 }
 
-impl<T: Drop> From<AllocFailed<T>> for Stop {
+impl<T: Drop> From<AllocFailed<T>> for ScheduleStop {
     ghost use Rattle.std.specs.Prelude.{◌≡◌};
 
     ghost from_gives = { λ _ e. e ≡ stop.Memory };
 
-    fn from(_e: AllocFailed<T>) -> Stop {
-        Stop::Memory
+    fn from(_e: AllocFailed<T>) -> ScheduleStop {
+        ScheduleStop::Memory
     }
 }

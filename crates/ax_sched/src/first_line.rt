@@ -4,13 +4,13 @@ ghost use Rattle.std.specs.Prelude.{◌≡◌, ◌==◌, ◌^◌, ◌<◌, ◌�
 ghost use Rattle.std.specs.List.{list_all};
 ghost use Rattle.std.specs.Cmp.Lexicographic.{pointwise};
 ghost use Rattle.ax_lex.specs.declared.token.TokenKind.TheVariants.{Global as Globals};
+ghost use Rattle.ax_lex.specs.Names.{name_in};
 ghost use Rattle.ax_lex.specs.Tokens.{is_token};
-ghost use Rattle.ax_sched.specs.Schedule.{name_in};
 ghost use Rattle.ax_sched.specs.Reading.{ReadsAs, entry_of, entries_from, is_first_line, first_of, counted_entries};
 
-use crate::fault::{Cause, Stop};
-use crate::name::name_in;
-use ax_ir::Function;
+use crate::fault::{Cause, ScheduleStop};
+use ax_lex::global_name;
+use ax_module::Function;
 use std::alloc::Global;
 
 const MOST_PROCESSORS: usize = 8;
@@ -18,7 +18,7 @@ const MOST_PROCESSORS: usize = 8;
 fn is_global(word: &[u8]) -> bool
     ensures { result ≡ is_token Globals word.now }
 {
-    name_in(word).is_some()
+    global_name(word).is_some()
 }
 
 fn are_globals(words: &[&[u8]]) -> bool
@@ -49,12 +49,12 @@ fn entry_of(word: &[u8], functions: &[Function]) -> Option<u32>
     requires { length functions.now < 2 ^ 32 }
     ensures { result ≡ entry_of (map (λ f. f.name) functions.now) word.now }
 {
-    let name = name_in(word)?;
+    let name = global_name(word)?;
     let place = place_of(name, functions)?;
     Some(place as u32)
 }
 
-fn entries(alloc: Global, names: &[&[u8]], functions: &[Function]) -> Result<Vec<u32>, Stop>
+fn entries(alloc: Global, names: &[&[u8]], functions: &[Function]) -> Result<Vec<u32>, ScheduleStop>
     requires { length functions.now < 2 ^ 32 }
     ensures read { ReadsAs (λ v. v.items) result (entries_from (map (λ f. f.name) functions.now) [] (map (λ w. w.now) names.now)) }
     ensures count { IfOk result (λ v. length v.items ≡ length names.now) }
@@ -62,32 +62,40 @@ fn entries(alloc: Global, names: &[&[u8]], functions: &[Function]) -> Result<Vec
     let mut entries = Vec::new(alloc);
     for name in names {
         let Some(entry) = entry_of(name, functions) else {
-            return Err(Stop::Bad(Cause::UnknownEntry));
+            return Err(ScheduleStop::Bad(Cause::UnknownEntry));
         };
         entries.push(entry)?;
     }
     Ok(entries)
 }
 
-fn counted_entries(alloc: Global, names: &[&[u8]], functions: &[Function]) -> Result<Vec<u32>, Stop>
+fn counted_entries(
+    alloc: Global,
+    names: &[&[u8]],
+    functions: &[Function],
+) -> Result<Vec<u32>, ScheduleStop>
     requires { length functions.now < 2 ^ 32 }
     ensures read { ReadsAs (λ v. v.items) result (counted_entries (map (λ f. f.name) functions.now) (map (λ w. w.now) names.now)) }
     ensures few { IfOk result (λ v. (1 ≤ length v.items) × (length v.items ≤ 8)) }
 {
     if names.is_empty() || names.len() > MOST_PROCESSORS {
-        return Err(Stop::Bad(Cause::ProcessorRange));
+        return Err(ScheduleStop::Bad(Cause::ProcessorRange));
     }
     entries(alloc, names, functions)
 }
 
 /// The functions that the first line names, by position.
-pub fn first_of(alloc: Global, words: &[&[u8]], functions: &[Function]) -> Result<Vec<u32>, Stop>
+pub fn first_of(
+    alloc: Global,
+    words: &[&[u8]],
+    functions: &[Function],
+) -> Result<Vec<u32>, ScheduleStop>
     requires { length functions.now < 2 ^ 32 }
     ensures read { ReadsAs (λ v. v.items) result (first_of (map (λ f. f.name) functions.now) (map (λ w. w.now) words.now)) }
     ensures few { IfOk result (λ v. (1 ≤ length v.items) × (length v.items ≤ 8)) }
 {
     match words {
         [_, names @ ..] if is_first_line(words) => counted_entries(alloc, names, functions),
-        _ => Err(Stop::Bad(Cause::Syntax)),
+        _ => Err(ScheduleStop::Bad(Cause::Syntax)),
     }
 }

@@ -1,11 +1,12 @@
 //! Lines of a text and their words.
 
-ghost use Rattle.std.specs.Prelude.{◌≡◌, ◌+◌, ◌++◌, ◌≤◌, ◌<◌, ◌^◌, ◌&&◌, not, [], length, map, IfOk, OnOk};
-ghost use Rattle.std.specs.List.{list_all};
+ghost use Rattle.std.specs.Prelude.{◌≡◌, ◌+◌, ◌++◌, ◌≤◌, ◌<◌, ◌^◌, ◌&&◌, not, [], length, map, drop, IfOk, OnOk};
+ghost use Rattle.std.specs.List.{prefix_len};
 ghost use Rattle.ax_lex.specs.Bytes.{is_blank};
-ghost use Rattle.ax_sched.specs.Lines.{lines_of, words_of, turned, are_none, begins_hash, is_passed_over, kept_from};
-ghost use Rattle.ax_sched.specs.Reading.{ended};
+ghost use Rattle.ax_sched.specs.Lines.{lines_of, words_of, turned, is_passed_over, kept_from};
+ghost use Rattle.ax_sched.specs.Reading.{ended, begins_no_word};
 
+use ax_lex::is_blank;
 use std::alloc::{AllocError, Global};
 
 /// The lines of a text, which line feeds part.
@@ -16,38 +17,37 @@ pub fn lines_of(alloc: Global, text: &[u8]) -> Result<Vec<&[u8]>, AllocError>
     text.split(|b| *b == b'\n').collect(alloc)
 }
 
-fn is_blank(b: u8) -> bool
-    ensures { result ≡ is_blank b }
+/// How many blanks stand at the front of a line.
+fn blank_run(line: &[u8]) -> usize
+    ensures is { result ≡ prefix_len is_blank line.now }
+    ensures within { result ≤ length line.now }
 {
-    b == b' ' || b == b'\t' || b == b'\r'
+    line.iter().take_while(|b| is_blank(**b)).count()
 }
 
-fn are_blanks(line: &[u8]) -> bool
-    ensures { result ≡ list_all is_blank line.now }
+/// What stands behind the blanks at the front of a line.
+fn behind_blanks(line: &[u8]) -> &[u8]
+    ensures { result.now ≡ drop (prefix_len is_blank line.now) line.now }
 {
-    line.iter().all(|b| is_blank(*b))
+    let (_, rest) = line.split_at(blank_run(line));
+    rest
 }
 
-/// Whether a line has no words.
-fn has_none(line: &[u8]) -> bool
-    ensures { result ≡ are_none (words_of line.now) }
+fn begins_no_word(rest: &[u8]) -> bool
+    ensures { result ≡ begins_no_word rest.now }
 {
-    are_blanks(line)
-}
-
-fn begins_hash(line: &[u8]) -> bool
-    ensures { result ≡ begins_hash line.now }
-{
-    match line {
-        [b'#', ..] => true,
+    match rest {
+        [] | [b'#', ..] => true,
         _ => false,
     }
 }
 
+/// Whether a line has no words, or a comment for its first.
+#[tactic(auto, using(crate::proofs::WordLemmas::passed_over))]
 fn is_passed_over(line: &[u8]) -> bool
     ensures { result ≡ is_passed_over line.now }
 {
-    begins_hash(line) || has_none(line)
+    begins_no_word(behind_blanks(line))
 }
 
 /// The lines that are neither comments nor without words, each with its number.

@@ -3,12 +3,12 @@
 ghost use Rattle.std.specs.Prelude.{◌≡◌};
 ghost use Rattle.ax_sched.specs.Plan.{times_of};
 
-use ax_ops::Items;
+use ax_words::Items;
 
 /// One directive, which makes `n` events: Steps, Drains or Drops of processor `p`, one after the
 /// other, or Steps of all processors in turn, from processor 0 on. On a machine with buffers each
 /// Step of a `Round` is followed by two Drains of its processor, and these count.
-#[derive(Clone, Copy, Debug, PartialEq, Eq)]
+#[derive(Clone, Copy)]
 pub enum Item {
     Step { p: u8, n: u64 },
     Drain { p: u8, n: u64 },
@@ -31,7 +31,7 @@ impl Item {
 /// The functions with which the processors begin, by position, and the directives in order.
 ///
 /// There are 1 to 8 entries, one for each processor, and at most 1,000,000 events.
-#[derive(Debug, Drop, PartialEq, Eq)]
+#[derive(Drop)]
 pub struct Plan {
     pub entries: Items<u32>,
     pub items: Items<Item>,

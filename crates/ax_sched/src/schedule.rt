@@ -1,7 +1,7 @@
 //! Schedules as a whole.
 
 ghost use Rattle.std.specs.Prelude.{◌≡◌, ℕ, ◌-◌, ◌^◌, ◌<◌, ◌≤◌, [], length, map, IfOk, MatchResult};
-ghost use Rattle.ax_ir.specs.WellFormed.{IsModule};
+ghost use Rattle.ax_module.specs.WellFormed.{IsModule};
 ghost use Rattle.ax_sched.specs.declared.plan.Plan.{Plan};
 ghost use Rattle.ax_sched.specs.declared.fault.Cause.{Cause};
 ghost use Rattle.ax_sched.specs.Plan.{IsPlanOf};
@@ -10,21 +10,21 @@ ghost use Rattle.ax_sched.specs.Schedule.{IsSchedule, IsFirstBad, IsSchedFault, 
 ghost use Rattle.ax_sched.specs.Reading.{AnswersAs, FirstAs, fault_at, first_of, items_from, plan_from};
 
 use crate::directive::item_from;
-use crate::fault::{Cause, SchedFault, Stop};
+use crate::fault::{Cause, SchedFault, ScheduleStop};
 use crate::first_line::first_of;
 use crate::line::{kept_lines, lines_of, words_of};
 use crate::plan::{Item, Plan};
-use ax_ir::{Function, Module};
-use ax_ops::Items;
+use ax_module::{Function, Module};
+use ax_words::Items;
 use std::alloc::Global;
 
 /// A line's stop as the fault of a text.
-fn fault_at(line: u32, stop: Stop) -> SchedFault
+fn fault_at(line: u32, stop: ScheduleStop) -> SchedFault
     ensures { result ≡ fault_at line stop }
 {
     match stop {
-        Stop::Bad(cause) => SchedFault::Bad { line, cause },
-        Stop::Memory => SchedFault::Memory,
+        ScheduleStop::Bad(cause) => SchedFault::Bad { line, cause },
+        ScheduleStop::Memory => SchedFault::Memory,
     }
 }
 
@@ -105,8 +105,8 @@ fn read_lines(alloc: Global, bytes: &[u8], functions: &[Function]) -> Result<Pla
 /// The plan that a schedule states for a module.
 ///
 /// A schedule is lines of words. A blank is a space, a tab or a carriage return; a blank within
-/// double quotes parts nothing. Lines without words and lines whose first byte is `#` are passed
-/// over. The first line is `processors` and the names of 1 to 8 functions, as the module's text
+/// double quotes parts nothing. Lines without words and lines whose first word begins with `#` are
+/// passed over. The first line is `processors` and the names of 1 to 8 functions, as the module's text
 /// has them with their `@`; those behind it are `step P N`, `drain P N`, `drop P N` and `round N`,
 /// with the processor P counted from 0 and all N together at most 1,000,000. Numbers are decimal
 /// without leading zeros. The last line feed may be absent.
@@ -116,7 +116,6 @@ fn read_lines(alloc: Global, bytes: &[u8], functions: &[Function]) -> Result<Pla
 pub fn read_schedule(alloc: Global, bytes: &[u8], m: &Module) -> Result<Plan, SchedFault>
     requires text { length bytes.now < 2 ^ 32 - 1 }
     requires module { IsModule m.now }
-    requires few { length m.now.functions < 2 ^ 32 }
     // What is answered is what the text states.
     ensures found { IfOk result (IsSchedule bytes.now m.now) }
     // It is a plan of the module.

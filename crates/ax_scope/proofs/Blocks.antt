@@ -1,8 +1,8 @@
 -- Blocks, as a loop makes them.
 use Rattle.std.proofs.Common.{◌≡◌, List, [], ◌∷◌, ◌++◌, refl, sym, ap, ◌∙◌, append_assoc}
 use Rattle.std.proofs.lemmas.List.{append-nil}
-use Rattle.ax_ir.specs.declared.inst.Inst.{Inst}
-use Rattle.ax_ir.specs.declared.module.Block.{Block}
+use Rattle.ax_module.specs.declared.inst.Inst.{Inst}
+use Rattle.ax_module.specs.declared.module.Block.{Block}
 use Rattle.ax_scope.specs.Module.{onto, empty_block}
 
 pub onto_onto : (a b : List Inst) (bs : List Block) → onto a (onto b bs) ≡ onto (a ++ b) bs

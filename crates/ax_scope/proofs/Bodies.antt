@@ -1,7 +1,7 @@
 -- One more line of a function.
 use Rattle.std.proofs.Common.{◌≡◌, ℕ, suc, ◌+◌, ◌<◌, Bool, false, cond, List, ◌∷◌, ◌++◌, length, drop, get_or, Option, Some, refl, sym, ap, ◌∙◌, add-one, drop-cons}
-use Rattle.ax_ir.specs.declared.inst.Inst.{Inst}
-use Rattle.ax_ir.specs.declared.module.Block.{Block}
+use Rattle.ax_module.specs.declared.inst.Inst.{Inst}
+use Rattle.ax_module.specs.declared.module.Block.{Block}
 use Rattle.ax_lines.specs.declared.statement.Line.{Line}
 use Rattle.ax_scope.specs.Resolve.{Looks}
 use Rattle.ax_scope.specs.Names.{first_behind}

@@ -5,7 +5,7 @@ use Rattle.std.specs.Prelude.{is_none}
 use Rattle.std.specs.Str.{bytes_eq}
 use Rattle.std.proofs.lemmas.Slice.Eq.{bytes_eq-Decides}
 use Rattle.ax_scope.specs.declared.meaning.Meaning.{Meaning}
-use Rattle.ax_scope.specs.Scope.{look, with_name, added}
+use Rattle.ax_scope.specs.NameTable.{look, with_name, added}
 
 -- a name is looked up in front first
 abbrev or_else : Option Meaning → Option Meaning → Option Meaning

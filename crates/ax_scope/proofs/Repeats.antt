@@ -2,7 +2,7 @@
 use Rattle.std.proofs.Common.{◌≡◌, ℕ, Bool, true, false, List, [], ◌∷◌, ◌++◌, refl, sym, ap, ◌∙◌, append_assoc}
 use Rattle.std.proofs.lemmas.List.{append-nil}
 use Rattle.std.specs.Prelude.{◌||◌}
-use Rattle.ax_scope.specs.Scope.{is_among}
+use Rattle.ax_scope.specs.NameTable.{is_among}
 use Rattle.ax_scope.specs.Faults.{again}
 
 or_assoc : (a b c : Bool) → (a || (b || c)) ≡ ((a || b) || c)

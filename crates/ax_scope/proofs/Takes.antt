@@ -3,16 +3,16 @@ use Rattle.std.proofs.Common.{◌≡◌, ℕ, ◌+◌, ◌≤◌, true, List, []
 use Rattle.std.specs.Prelude.{is_none, IfOk, IsErr, IsErrAnd}
 use Rattle.std.specs.Global.{Vec}
 use Rattle.std.specs.List.{prefix_len}
-use Rattle.ax_ir.specs.declared.types.Ty.{Ty}
-use Rattle.ax_ir.specs.declared.module.Block.{Block}
-use Rattle.ax_ir.specs.declared.module.Function.{Function}
-use Rattle.ax_lines.specs.declared.symbol.Span.{Span}
+use Rattle.ax_module.specs.declared.types.Ty.{Ty}
+use Rattle.ax_module.specs.declared.module.Block.{Block}
+use Rattle.ax_module.specs.declared.module.Function.{Function}
+use Rattle.ax_symbols.specs.declared.symbol.Span.{Span}
 use Rattle.ax_lines.specs.declared.statement.Line.{Line}
 use Rattle.ax_lines.specs.declared.statement.Line.TheVariants.{Define}
 use Rattle.ax_scope.specs.declared.meaning.Meaning.{Meaning}
 use Rattle.ax_scope.specs.declared.fault.ScopeFault.{ScopeFault}
 use Rattle.ax_scope.specs.declared.fault.ScopeFault.TheVariants as fault
-use Rattle.ax_scope.specs.Scope.{look, added}
+use Rattle.ax_scope.specs.NameTable.{look, added}
 use Rattle.ax_scope.specs.Names.{text_at, is_inner, entry_name, values_of, blocks_of}
 use Rattle.ax_scope.specs.Resolve.{Looks}
 use Rattle.ax_scope.specs.Faults.{Body, looks_of, body_of, body_faults, body_begun, faults_from}

@@ -7,7 +7,7 @@ use Rattle.std.specs.List.{list_any}
 use Rattle.std.specs.Str.{bytes_eq}
 use Rattle.indexmap.specs.IndexMap.{insert_entry}
 use Rattle.ax_scope.specs.declared.meaning.Meaning.{Meaning}
-use Rattle.ax_scope.specs.Scope.{look, with_name, is_among}
+use Rattle.ax_scope.specs.NameTable.{look, with_name, is_among}
 
 abbrev pub texts : List (Vec ℕ) → List (List ℕ)
 texts keys = map (λ k. k.items) keys

@@ -3,13 +3,13 @@ use Rattle.std.proofs.Common.{◌≡◌, ℕ, suc, ◌+◌, ◌-◌, ◌≤◌, 
 use Rattle.std.specs.Prelude.{◌||◌, IfErr, IsErrAnd}
 use Rattle.std.specs.Option.{option_to_list}
 use Rattle.std.specs.Global.{Vec}
-use Rattle.ax_ir.specs.declared.module.Function.{Function}
-use Rattle.ax_ir.specs.declared.module.Module.{Module}
+use Rattle.ax_module.specs.declared.module.Function.{Function}
+use Rattle.ax_module.specs.declared.module.Module.{Module}
 use Rattle.ax_lines.specs.declared.statement.Line.{Line}
 use Rattle.ax_scope.specs.declared.meaning.Meaning.{Meaning}
 use Rattle.ax_scope.specs.declared.fault.ScopeFault.{ScopeFault}
 use Rattle.ax_scope.specs.declared.fault.ScopeFault.TheVariants as fault
-use Rattle.ax_scope.specs.Scope.{look, added}
+use Rattle.ax_scope.specs.NameTable.{look, added}
 use Rattle.ax_scope.specs.Names.{globals_from}
 use Rattle.ax_scope.specs.Faults.{Body, outer_name, outer_fault, body_begun, function_behind, faults_from, faults, AllFalse, NamesFit, IsNameFault}
 use Rattle.ax_scope.specs.Answers.{first_fault, FaultIs, Finds, IsFault}

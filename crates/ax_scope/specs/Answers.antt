@@ -2,32 +2,32 @@
 use Rattle.std.specs.Prelude.{◌≡◌, ℕ, Bool, true, false, cond, ◌≤◌, length, drop, List, [], ◌++◌, Option, None, Some, Result, Ok, Err, ◌+◌, ◌∷◌}
 use Rattle.std.specs.Option.{option_to_list}
 use Rattle.ax_lines.specs.declared.statement.Line.{Line}
-use Rattle.ax_ir.specs.declared.inst.Inst.{Inst}
-use Rattle.ax_scope.specs.declared.fault.Stop.{Stop}
-use Rattle.ax_scope.specs.declared.fault.Stop.TheVariants as stop
+use Rattle.ax_module.specs.declared.inst.Inst.{Inst}
+use Rattle.ax_scope.specs.declared.fault.NameStop.{NameStop}
+use Rattle.ax_scope.specs.declared.fault.NameStop.TheVariants as stop
 use Rattle.ax_scope.specs.declared.fault.ScopeFault.{ScopeFault}
 use Rattle.ax_scope.specs.declared.fault.ScopeFault.TheVariants as fault
 use Rattle.ax_scope.specs.Faults.{again, outer_fault, outer_name, param_names, Body, body_fault, local_names, stated, body_begun, faults_from, IsNameFault}
 use Rattle.ax_scope.specs.Module.{function_at, functions_in}
 use Rattle.ax_scope.specs.declared.meaning.Meaning.{Meaning}
-use Rattle.ax_ir.specs.declared.module.Function.{Function}
+use Rattle.ax_module.specs.declared.module.Function.{Function}
 
-abbrev pub StopsAt : Stop → Bool → Type 0
+abbrev pub StopsAt : NameStop → Bool → Type 0
 StopsAt stop.Name faulty = faulty ≡ true
 StopsAt stop.Memory faulty = Unit {0}
 
 -- Names were declared behind those so far, unless one of them was declared again.
-abbrev pub Declares : List (List ℕ) → List (List ℕ) → List (List ℕ) → Result (Unit {0}) Stop → Type 0
+abbrev pub Declares : List (List ℕ) → List (List ℕ) → List (List ℕ) → Result (Unit {0}) NameStop → Type 0
 Declares old new names (Ok u) = (again old names ≡ false) × (new ≡ old ++ names)
 Declares old new names (Err e) = StopsAt e (again old names)
 
 -- A line outside functions has no fault, and these are the names of its parameters.
-abbrev pub Enters : List ℕ → List (List ℕ) → List (List ℕ) → Line → Result (List (List ℕ)) Stop → Type 0
+abbrev pub Enters : List ℕ → List (List ℕ) → List (List ℕ) → Line → Result (List (List ℕ)) NameStop → Type 0
 Enters text old new l (Ok params) = (outer_fault text old l ≡ false) × (new ≡ old ++ option_to_list (outer_name text l)) × (params ≡ param_names text l)
 Enters text old new l (Err e) = StopsAt e (outer_fault text old l)
 
 -- A line in a function has no fault, and this is its instruction.
-abbrev pub Passes : Body → Line → List (List ℕ) → Result (Option Inst) Stop → Type 0
+abbrev pub Passes : Body → Line → List (List ℕ) → Result (Option Inst) NameStop → Type 0
 Passes b l new (Ok o) = (body_fault b l ≡ false) × (stated b.looks l ≡ Some o) × (new ≡ b.so_far ++ local_names b l)
 Passes b l new (Err e) = StopsAt e (body_fault b l)
 

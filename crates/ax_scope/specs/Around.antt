@@ -1,6 +1,6 @@
 -- What names stand for, as code holds it.
 use Rattle.ax_scope.specs.declared.locals.Names.{Names}
-use Rattle.ax_scope.specs.Scope.{look}
+use Rattle.ax_scope.specs.NameTable.{look}
 use Rattle.ax_scope.specs.Resolve.{Looks}
 
 abbrev pub looks : Names → Looks

@@ -1,4 +1,4 @@
-pub mod Scope
+pub mod NameTable
 pub mod Names
 pub mod Resolve
 pub mod Around

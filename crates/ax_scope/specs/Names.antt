@@ -1,8 +1,9 @@
 -- The names that lines declare, and what each stands for.
-use Rattle.std.specs.Prelude.{ℕ, ◌+◌, ◌-◌, ◌%◌, ◌^◌, Bool, true, false, cond, not, ◌&&◌, ◌==◌, nat_le, min, List, [], ◌∷◌, ◌++◌, length, take, drop, Option, None, Some, decimal}
+use Rattle.std.specs.Prelude.{ℕ, ◌+◌, ◌-◌, Bool, true, false, cond, not, ◌&&◌, ◌==◌, min, List, [], ◌∷◌, ◌++◌, length, take, drop, Option, None, Some, decimal}
 use Rattle.std.specs.List.{list_all, count_by, prefix_len}
-use Rattle.ax_ir.specs.declared.types.Ty.{Ty}
-use Rattle.ax_lines.specs.declared.symbol.Span.{Span}
+use Rattle.ax_lex.specs.Bytes.{is_digit}
+use Rattle.ax_module.specs.declared.types.Ty.{Ty}
+use Rattle.ax_symbols.specs.declared.symbol.Span.{Span}
 use Rattle.ax_lines.specs.declared.statement.Line.{Line}
 use Rattle.ax_lines.specs.declared.statement.Line.TheVariants as line
 use Rattle.ax_scope.specs.declared.meaning.Meaning.{Meaning}
@@ -50,10 +51,10 @@ abbrev pub globals_from : List ℕ → ℕ → List Line → List (List ℕ × M
 globals_from text k [] = []
 globals_from text k (l ∷ ls) = declared (global_name text l) (meaning.Global k) ++ globals_from text (k + count_some (global_name text l)) ls
 
--- the parameters, numbered from k; a number is kept in 32 bits
+-- the parameters, numbered from k
 abbrev pub params_from : List ℕ → ℕ → List (Ty × Span) → List (List ℕ × Meaning)
 params_from text k [] = []
-params_from text k (p ∷ ps) = (text_at text p.1, meaning.Param k) ∷ params_from text ((k + 1) % 2 ^ 32) ps
+params_from text k (p ∷ ps) = (text_at text p.1, meaning.Param k) ∷ params_from text (k + 1) ps
 
 unfoldable pub result_name : List ℕ → Line → Option (List ℕ)
 result_name text (line.Inst r s) = maybe_at text r
@@ -67,9 +68,6 @@ inst_count _ = 0
 abbrev pub results_from : List ℕ → ℕ → List Line → List (List ℕ × Meaning)
 results_from text k [] = []
 results_from text k (l ∷ ls) = declared (result_name text l) (meaning.Value k) ++ results_from text (k + inst_count l) ls
-
-abbrev pub is_digit : ℕ → Bool
-is_digit b = nat_le 48 b && nat_le b 57
 
 -- digits alone, at least one
 abbrev pub is_number : List ℕ → Bool

@@ -1,21 +1,21 @@
 -- What lines state, with numbers in place of names.
 use Rattle.std.specs.Prelude.{ℕ, List, [], ◌∷◌, Option, None, Some}
-use Rattle.ax_ir.specs.declared.types.Ty.{Ty}
-use Rattle.ax_ir.specs.declared.operand.Operand.{Operand}
-use Rattle.ax_ir.specs.declared.operand.Operand.TheVariants as operand
-use Rattle.ax_ir.specs.declared.operand.Base.{Base}
-use Rattle.ax_ir.specs.declared.operand.Base.TheVariants as base
-use Rattle.ax_ir.specs.declared.operand.Addr.{Addr}
-use Rattle.ax_ir.specs.declared.operand.Arg.{Arg}
-use Rattle.ax_ir.specs.declared.operand.Arg.TheVariants as arg
-use Rattle.ax_ir.specs.declared.inst.Inst.{Inst}
-use Rattle.ax_ir.specs.declared.inst.Inst.TheVariants as inst
-use Rattle.ax_ir.specs.Types.{type_bytes}
-use Rattle.ax_lines.specs.declared.symbol.Span.{Span}
-use Rattle.ax_lines.specs.declared.statement.Value.{Value}
-use Rattle.ax_lines.specs.declared.statement.Value.TheVariants as value
-use Rattle.ax_lines.specs.declared.statement.Base.{Base as NamedBase}
-use Rattle.ax_lines.specs.declared.statement.Base.TheVariants as named
+use Rattle.ax_module.specs.declared.types.Ty.{Ty}
+use Rattle.ax_module.specs.declared.operand.Operand.{Operand}
+use Rattle.ax_module.specs.declared.operand.Operand.TheVariants as operand
+use Rattle.ax_module.specs.declared.operand.Base.{Base}
+use Rattle.ax_module.specs.declared.operand.Base.TheVariants as base
+use Rattle.ax_module.specs.declared.operand.Addr.{Addr}
+use Rattle.ax_module.specs.declared.operand.Arg.{Arg}
+use Rattle.ax_module.specs.declared.operand.Arg.TheVariants as arg
+use Rattle.ax_module.specs.declared.inst.Inst.{Inst}
+use Rattle.ax_module.specs.declared.inst.Inst.TheVariants as inst
+use Rattle.ax_module.specs.Types.{type_bytes}
+use Rattle.ax_symbols.specs.declared.symbol.Span.{Span}
+use Rattle.ax_symbols.specs.declared.values.Value.{Value}
+use Rattle.ax_symbols.specs.declared.values.Value.TheVariants as value
+use Rattle.ax_symbols.specs.declared.values.Base.{Base as NamedBase}
+use Rattle.ax_symbols.specs.declared.values.Base.TheVariants as named
 use Rattle.ax_lines.specs.declared.statement.Pointer.{Pointer}
 use Rattle.ax_lines.specs.declared.statement.Pointer.TheVariants as pointer
 use Rattle.ax_lines.specs.declared.statement.Argument.{Argument}

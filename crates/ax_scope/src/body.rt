@@ -6,22 +6,22 @@ ghost use Rattle.ax_scope.specs.Around.{looks};
 ghost use Rattle.ax_scope.specs.Stops.{Resolves};
 ghost use Rattle.ax_scope.specs.Faults.{stated, names_of, body_faults};
 ghost use Rattle.ax_scope.specs.Module.{ends_block, insts_in, empty_block, onto, blocks_in};
-ghost use Rattle.ax_ir.specs.declared.module.Block.{Block};
+ghost use Rattle.ax_module.specs.declared.module.Block.{Block};
 ghost use Rattle.ax_lines.specs.Productions.{is_terminator};
 
 use crate::declared::{block_name, first_behind, result_name};
-use crate::fault::{ScopeFault, Stop};
+use crate::fault::{NameStop, ScopeFault};
 use crate::inst::inst_of;
 use crate::locals::Names;
 use crate::outer::declare;
 use crate::seen::Seen;
-use ax_ir::{Block, Inst};
 use ax_lines::{Line, Statement};
-use ax_ops::Items;
+use ax_module::{Block, Inst};
+use ax_words::Items;
 use std::alloc::{AllocError, Global};
 
 #[tactic(auto, unfolding(crate::specs::Faults::stated))]
-fn stated(alloc: Global, names: &Names, line: &Line) -> Result<Option<Inst>, Stop>
+fn stated(alloc: Global, names: &Names, line: &Line) -> Result<Option<Inst>, NameStop>
     ensures { Resolves (λ o. o) result (stated (looks names.now) line.now) }
 {
     match line {
@@ -41,7 +41,7 @@ fn declare_locals(
     first: bool,
     so_far: &mut Seen,
     line: &Line,
-) -> Result<(), Stop>
+) -> Result<(), NameStop>
     ensures { Declares so_far.old so_far.new (names_of text.now entry.now first line.now) result }
 {
     declare(alloc, so_far, block_name(text, entry, first, line))?;
@@ -56,7 +56,7 @@ fn pass(
     first: bool,
     so_far: &mut Seen,
     line: &Line,
-) -> Result<Option<Inst>, Stop>
+) -> Result<Option<Inst>, NameStop>
     ensures { Passes (record { looks = looks names.now; entry = entry.now; first = first; so_far = so_far.old }) line.now so_far.new result }
 {
     declare_locals(alloc, names.text, entry, first, so_far, line)?;
@@ -77,8 +77,8 @@ fn pass_at(
 {
     match pass(alloc, names, entry, first, so_far, line) {
         Ok(inst) => Ok(inst),
-        Err(Stop::Name) => Err(ScopeFault::Name { line: number }),
-        Err(Stop::Memory) => Err(ScopeFault::Memory),
+        Err(NameStop::Name) => Err(ScopeFault::Name { line: number }),
+        Err(NameStop::Memory) => Err(ScopeFault::Memory),
     }
 }
 

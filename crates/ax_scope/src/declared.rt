@@ -4,14 +4,17 @@ ghost use Rattle.std.specs.Prelude.{◌≡◌, ◌≤◌, ◌<◌, ◌^◌, [], 
 ghost use Rattle.std.specs.Option.{option_map};
 ghost use Rattle.std.specs.List.{prefix_len, count_by, list_all};
 ghost use Rattle.std.specs.String.{string_bytes};
-ghost use Rattle.ax_scope.specs.Scope.{added};
-ghost use Rattle.ax_scope.specs.Names.{maybe_at, is_inner, text_at, global_name, globals_from, params_from, result_name, inst_count, results_from, is_digit, is_number, entry_name, block_name, first_behind, values_of, blocks_of};
+ghost use Rattle.ax_lex.specs.Bytes.{is_digit};
+ghost use Rattle.ax_scope.specs.NameTable.{added};
+ghost use Rattle.ax_scope.specs.Names.{maybe_at, is_inner, text_at, global_name, globals_from, params_from, result_name, inst_count, results_from, is_number, entry_name, block_name, first_behind, values_of, blocks_of};
 
 use crate::locals::{Locals, text_at};
 use crate::meaning::Meaning;
-use crate::scope::Scope;
-use ax_ir::Ty;
-use ax_lines::{Line, Span};
+use crate::name_table::NameTable;
+use ax_lex::is_digit;
+use ax_lines::Line;
+use ax_module::Ty;
+use ax_symbols::Span;
 use std::alloc::{AllocError, Global};
 
 fn maybe_at<'a>(text: &'a [u8], span: Option<Span>) -> Option<&'a [u8]>
@@ -101,12 +104,6 @@ pub fn first_behind(first: bool, line: &Line) -> bool
     }
 }
 
-fn is_digit(b: u8) -> bool
-    ensures { result ≡ is_digit b }
-{
-    b >= b'0' && b <= b'9'
-}
-
 fn has_digits_alone(name: &[u8]) -> bool
     ensures { result ≡ list_all is_digit name.now }
 {
@@ -140,11 +137,11 @@ pub fn entry_name(alloc: Global, text: &[u8], params: &[(Ty, Span)]) -> Result<S
 }
 
 /// What the names of globals stand for.
-pub fn globals_of(alloc: Global, text: &[u8], lines: &[Line]) -> Result<Scope, AllocError>
+pub fn globals_of(alloc: Global, text: &[u8], lines: &[Line]) -> Result<NameTable, AllocError>
     requires { length lines.now < 2 ^ 32 }
     ensures { IfOk result (λ s. s ≡ added [] (globals_from text.now 0 lines.now)) }
 {
-    let mut globals = Scope::new(alloc);
+    let mut globals = NameTable::new(alloc);
     let mut number = 0;
     for line in lines {
         if let Some(name) = global_name(text, line) {
@@ -159,14 +156,13 @@ fn add_params(
     alloc: Global,
     text: &[u8],
     params: &[(Ty, Span)],
-    values: &mut Scope,
+    values: &mut NameTable,
 ) -> Result<(), AllocError>
+    requires { length params.now < 2 ^ 32 }
     ensures { OnOk result (values.new ≡ added values.old (params_from text.now 0 params.now)) }
 {
-    let mut number: u32 = 0;
-    for (_, name) in params {
-        values.declare(alloc, text_at(text, *name), Meaning::Param(number))?;
-        number = number.wrapping_add(1);
+    for (number, (_, name)) in params.iter().enumerate() {
+        values.declare(alloc, text_at(text, *name), Meaning::Param(number as u32))?;
     }
     Ok(())
 }
@@ -175,7 +171,7 @@ fn add_results(
     alloc: Global,
     text: &[u8],
     inside: &[Line],
-    values: &mut Scope,
+    values: &mut NameTable,
 ) -> Result<(), AllocError>
     requires { length inside.now < 2 ^ 32 }
     ensures { OnOk result (values.new ≡ added values.old (results_from text.now 0 inside.now)) }
@@ -195,7 +191,7 @@ fn add_blocks(
     text: &[u8],
     entry: &[u8],
     inside: &[Line],
-    blocks: &mut Scope,
+    blocks: &mut NameTable,
 ) -> Result<(), AllocError>
     requires { length inside.now < 2 ^ 32 }
     ensures { OnOk result (blocks.new ≡ added blocks.old (blocks_of text.now entry.now inside.now)) }
@@ -221,14 +217,15 @@ pub fn locals_of(
     params: &[(Ty, Span)],
     inside: &[Line],
 ) -> Result<Locals, AllocError>
-    requires { length inside.now < 2 ^ 32 }
+    requires params { length params.now < 2 ^ 32 }
+    requires lines { length inside.now < 2 ^ 32 }
     ensures values { IfOk result (λ l. l.values ≡ added [] (values_of text.now params.now inside.now)) }
     ensures blocks { IfOk result (λ l. l.blocks ≡ added [] (blocks_of text.now entry.now inside.now)) }
 {
-    let mut values = Scope::new(alloc);
+    let mut values = NameTable::new(alloc);
     add_params(alloc, text, params, &mut values)?;
     add_results(alloc, text, inside, &mut values)?;
-    let mut blocks = Scope::new(alloc);
+    let mut blocks = NameTable::new(alloc);
     add_blocks(alloc, text, entry, inside, &mut blocks)?;
     Ok(Locals { values, blocks })
 }

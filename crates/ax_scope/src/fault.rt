@@ -1,12 +1,16 @@
 //! Why lines are no module.
 
 use std::alloc::{AllocError, AllocFailed};
+use thiserror::Error;
 
 /// Why lines are no module.
-#[derive(Clone, Copy, Debug, PartialEq, Eq, Drop)]
+#[derive(Clone, Copy, Debug, Error)]
 pub enum ScopeFault {
     /// The first line whose names don't fit, counted from 1.
+    #[error("line {line} has a name that does not fit")]
     Name { line: usize },
+    /// Memory ran out.
+    #[error("memory ran out")]
     Memory,
 }
 
@@ -34,30 +38,30 @@ impl<T: Drop> From<AllocFailed<T>> for ScopeFault {
 
 /// Why a line is not resolved.
 #[derive(Clone, Copy, Drop)]
-pub enum Stop {
+pub enum NameStop {
     /// A name does not fit: it stands for nothing, or is declared again.
     Name,
     Memory,
 }
 
-impl From<AllocError> for Stop {
+impl From<AllocError> for NameStop {
     ghost use Rattle.std.specs.Prelude.{◌≡◌};
-    ghost use Rattle.ax_scope.specs.declared.fault.Stop.TheVariants as stop;
+    ghost use Rattle.ax_scope.specs.declared.fault.NameStop.TheVariants as stop;
 
     ghost from_gives = { λ _ e. e ≡ stop.Memory };
 
-    fn from(_e: AllocError) -> Stop {
-        Stop::Memory
+    fn from(_e: AllocError) -> NameStop {
+        NameStop::Memory
     }
 }
 
-impl<T: Drop> From<AllocFailed<T>> for Stop {
+impl<T: Drop> From<AllocFailed<T>> for NameStop {
     ghost use Rattle.std.specs.Prelude.{◌≡◌};
-    ghost use Rattle.ax_scope.specs.declared.fault.Stop.TheVariants as stop;
+    ghost use Rattle.ax_scope.specs.declared.fault.NameStop.TheVariants as stop;
 
     ghost from_gives = { λ _ e. e ≡ stop.Memory };
 
-    fn from(_e: AllocFailed<T>) -> Stop {
-        Stop::Memory
+    fn from(_e: AllocFailed<T>) -> NameStop {
+        NameStop::Memory
     }
 }

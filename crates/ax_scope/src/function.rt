@@ -2,8 +2,9 @@
 
 ghost use Rattle.std.specs.Prelude.{◌≡◌, ◌+◌, ◌<◌, ◌^◌, length, map, is_none, IfOk};
 ghost use Rattle.ax_lines.specs.declared.statement.Line.TheVariants.{Define};
+ghost use Rattle.ax_lines.specs.Lines.{param_count};
 ghost use Rattle.ax_scope.specs.Answers.{Finds, Takes, first_fault};
-ghost use Rattle.ax_scope.specs.Scope.{look};
+ghost use Rattle.ax_scope.specs.NameTable.{look};
 ghost use Rattle.ax_scope.specs.Names.{text_at};
 ghost use Rattle.ax_scope.specs.Faults.{looks_of, body_of, body_faults, param_names};
 ghost use Rattle.ax_scope.specs.Module.{result_or, blocks_in};
@@ -12,24 +13,26 @@ use crate::body::blocks_in;
 use crate::declared::{entry_name, inner_len, locals_of};
 use crate::fault::ScopeFault;
 use crate::locals::{Names, text_at};
-use crate::scope::Scope;
+use crate::name_table::NameTable;
 use crate::seen::Seen;
-use ax_ir::{Block, Function, Name, Ty};
-use ax_lines::{Line, Span};
-use ax_ops::Items;
+use ax_lines::Line;
+use ax_module::{Block, Function, Name, Ty};
+use ax_symbols::Span;
+use ax_words::Items;
 use std::alloc::{AllocError, Global};
 
 /// The blocks of a function whose lines are these, the first of which has this number.
 fn body_in(
     alloc: Global,
     text: &[u8],
-    globals: &Scope,
+    globals: &NameTable,
     params: &[(Ty, Span)],
     so_far: Seen,
     inside: &[Line],
     start: usize,
 ) -> Result<Vec<Block>, ScopeFault>
     requires few { length inside.now < 2 ^ 32 }
+    requires few_params { length params.now < 2 ^ 32 }
     requires fits { start + length inside.now < 2 ^ 64 }
     requires params { so_far ≡ map (λ p. text_at text.now p.1) params.now }
     ensures built { IfOk result (λ v. v.items ≡ blocks_in (looks_of text.now (look globals.now) params.now inside.now) inside.now) }
@@ -95,7 +98,7 @@ fn function_of(
 fn define(
     alloc: Global,
     text: &[u8],
-    globals: &Scope,
+    globals: &NameTable,
     head: Head,
     so_far: Seen,
     behind: &[Line],
@@ -103,6 +106,7 @@ fn define(
     functions: &mut Vec<Function>,
 ) -> Result<usize, ScopeFault>
     requires few { length behind.now < 2 ^ 32 }
+    requires few_params { length head.params.now < 2 ^ 32 }
     requires fits { start + length behind.now < 2 ^ 64 }
     requires params { so_far ≡ map (λ p. text_at text.now p.1) head.params.now }
     ensures { Takes text.now (look globals.now) (Define head.entry.name head.entry.result head.entry.params.now) behind.now start functions.old.items functions.new.items result }
@@ -120,7 +124,7 @@ fn define(
 pub fn function_in(
     alloc: Global,
     text: &[u8],
-    globals: &Scope,
+    globals: &NameTable,
     line: &Line,
     so_far: Seen,
     behind: &[Line],
@@ -128,6 +132,7 @@ pub fn function_in(
     functions: &mut Vec<Function>,
 ) -> Result<usize, ScopeFault>
     requires few { length behind.now < 2 ^ 32 }
+    requires few_params { param_count line.now < 2 ^ 32 }
     requires fits { start + length behind.now < 2 ^ 64 }
     requires params { so_far ≡ param_names text.now line.now }
     ensures { Takes text.now (look globals.now) line.now behind.now start functions.old.items functions.new.items result }

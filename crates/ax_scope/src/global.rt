@@ -4,9 +4,10 @@ ghost use Rattle.std.specs.Prelude.{◌≡◌, IfOk, OnOk, ◌++◌, map};
 ghost use Rattle.ax_scope.specs.Module.{constant_of, global_at, globals_in};
 
 use crate::locals::text_at;
-use ax_ir::{Global as Variable, Name, Operand};
-use ax_lines::{Line, Value};
-use ax_ops::Items;
+use ax_lines::Line;
+use ax_module::{Global as Variable, Name, Operand};
+use ax_symbols::Value;
+use ax_words::Items;
 use std::alloc::{AllocError, Global};
 
 fn constant_of(value: Value) -> Operand

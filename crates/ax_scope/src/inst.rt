@@ -6,12 +6,13 @@ ghost use Rattle.ax_scope.specs.Resolve.{alignment_or, args_of, incoming_of, ins
 ghost use Rattle.ax_scope.specs.Around.{looks};
 ghost use Rattle.ax_scope.specs.Stops.{Resolves};
 
-use crate::fault::Stop;
+use crate::fault::NameStop;
 use crate::locals::{Names, text_at};
 use crate::resolve::{addr_of, arg_of, base_of, block_of, operand_of};
-use ax_ir::{Arg, BinOp, Cast, Inst, Name, Operand, Pred, Ty};
-use ax_lines::{Argument, Path, Pointer, Span, Statement, Value};
-use ax_ops::{Items, Order, RmwOp};
+use ax_lines::{Argument, Path, Pointer, Statement};
+use ax_module::{Arg, BinOp, Cast, Inst, Name, Operand, Pred, Ty};
+use ax_symbols::{Span, Value};
+use ax_words::{Items, Order, RmwOp};
 use std::alloc::Global;
 
 #[tactic(auto, unfolding(crate::specs::Resolve::inst_of))]
@@ -182,12 +183,12 @@ fn modification(
     Some(Inst::Rmw(op, addr, operand.0, value, order, align))
 }
 
-fn args_of(alloc: Global, names: &Names, arguments: &[Argument]) -> Result<Vec<Arg>, Stop>
+fn args_of(alloc: Global, names: &Names, arguments: &[Argument]) -> Result<Vec<Arg>, NameStop>
     ensures { Resolves (λ v. v.items) result (args_of (looks names.now) arguments.now) }
 {
     let mut args = Vec::with_capacity(alloc, arguments.len())?;
     for argument in arguments {
-        let arg = arg_of(names, *argument).ok_or(Stop::Name)?;
+        let arg = arg_of(names, *argument).ok_or(NameStop::Name)?;
         args.push(arg)?;
     }
     Ok(args)
@@ -197,20 +198,20 @@ fn incoming_of(
     alloc: Global,
     names: &Names,
     pairs: &[(Value, Span)],
-) -> Result<Vec<(Operand, u32)>, Stop>
+) -> Result<Vec<(Operand, u32)>, NameStop>
     ensures { Resolves (λ v. v.items) result (incoming_of (looks names.now) pairs.now) }
 {
     let mut incoming = Vec::with_capacity(alloc, pairs.len())?;
     for (value, from) in pairs {
-        let operand = operand_of(names, *value).ok_or(Stop::Name)?;
-        let block = block_of(names, *from).ok_or(Stop::Name)?;
+        let operand = operand_of(names, *value).ok_or(NameStop::Name)?;
+        let block = block_of(names, *from).ok_or(NameStop::Name)?;
         incoming.push((operand, block))?;
     }
     Ok(incoming)
 }
 
 #[tactic(auto, unfolding(crate::specs::Resolve::inst_of))]
-fn phi(alloc: Global, names: &Names, ty: Ty, pairs: &Items<(Value, Span)>) -> Result<Inst, Stop>
+fn phi(alloc: Global, names: &Names, ty: Ty, pairs: &Items<(Value, Span)>) -> Result<Inst, NameStop>
     ensures { Resolves (λ i. i) result (inst_of (looks names.now) (Phi ty pairs.now)) }
 {
     let incoming = incoming_of(alloc, names, pairs.as_slice())?;
@@ -224,7 +225,7 @@ fn call(
     ty: Option<Ty>,
     callee: Span,
     arguments: &Items<Argument>,
-) -> Result<Inst, Stop>
+) -> Result<Inst, NameStop>
     ensures { Resolves (λ i. i) result (inst_of (looks names.now) (Call ty callee arguments.now)) }
 {
     let args = args_of(alloc, names, arguments.as_slice())?;
@@ -232,15 +233,15 @@ fn call(
     Ok(Inst::Call(ty, Name::of(callee), Items::of(args)))
 }
 
-fn found(inst: Option<Inst>) -> Result<Inst, Stop>
+fn found(inst: Option<Inst>) -> Result<Inst, NameStop>
     ensures { Resolves (λ i. i) result inst }
 {
-    inst.ok_or(Stop::Name)
+    inst.ok_or(NameStop::Name)
 }
 
 /// The instruction that a statement is, unless a name that it uses stands for nothing.
 #[tactic(auto, unfolding(crate::specs::Resolve::inst_of))]
-pub fn inst_of(alloc: Global, names: &Names, statement: &Statement) -> Result<Inst, Stop>
+pub fn inst_of(alloc: Global, names: &Names, statement: &Statement) -> Result<Inst, NameStop>
     ensures { Resolves (λ i. i) result (inst_of (looks names.now) statement.now) }
 {
     match statement {

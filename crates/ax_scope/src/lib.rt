@@ -3,20 +3,17 @@
 
 mod body;
 mod declared;
-pub mod fault;
+mod fault;
 mod function;
 mod global;
 mod inst;
 mod locals;
-pub mod meaning;
-pub mod module;
+mod meaning;
+mod module;
+mod name_table;
 mod outer;
 mod resolve;
-mod scope;
 mod seen;
 
 pub use fault::ScopeFault;
-pub use module::module_of;
-
-#[cfg(test)]
-mod tests;
+pub use module::{module_of, one_answer};

@@ -3,21 +3,21 @@
 ghost use Rattle.std.specs.Prelude.{◌≡◌};
 ghost use Rattle.ax_scope.specs.Names.{text_at};
 
-use crate::scope::Scope;
-use ax_lines::Span;
+use crate::name_table::NameTable;
+use ax_symbols::Span;
 
 /// The parameters and results of a function, and its blocks.
 #[derive(Drop)]
 pub struct Locals {
-    pub values: Scope,
-    pub blocks: Scope,
+    pub values: NameTable,
+    pub blocks: NameTable,
 }
 
 /// What names stand for at the lines of a function, and the text that they stand in.
 #[derive(Clone, Copy)]
 pub struct Names<'a> {
     pub text: &'a [u8],
-    pub globals: &'a Scope,
+    pub globals: &'a NameTable,
     pub locals: &'a Locals,
 }
 

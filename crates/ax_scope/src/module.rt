@@ -1,32 +1,35 @@
 //! The module that lines are.
 
-ghost use Rattle.std.specs.Prelude.{◌≡◌, ◌<◌, ◌^◌, [], None, List, ℕ, length, IfOk, IfErr, OnOk};
-ghost use Rattle.ax_scope.specs.Scope.{look};
+ghost use Rattle.std.specs.Prelude.{◌≡◌, ◌<◌, ◌^◌, [], None, List, ℕ, length, true, All, IfOk, IfErr, OnOk};
+ghost use Rattle.ax_scope.specs.NameTable.{look};
 ghost use Rattle.ax_scope.specs.Answers.{Finds, first_fault, IsFault};
 ghost use Rattle.ax_scope.specs.Faults.{faults_from, NamesFit, IsNameFault};
 ghost use Rattle.ax_scope.specs.Module.{functions_in, module_of};
+ghost use Rattle.ax_module.specs.WellFormed.{is_counted};
 ghost use Rattle.ax_lines.specs.declared.statement.Line.{Line};
+ghost use Rattle.ax_lines.specs.Lines.{param_count};
 
 use crate::declared::globals_of;
 use crate::fault::ScopeFault;
 use crate::function::function_in;
 use crate::global::globals_in;
+use crate::name_table::NameTable;
 use crate::outer::enter_at;
-use crate::scope::Scope;
 use crate::seen::Seen;
-use ax_ir::{Function, Module};
 use ax_lines::Line;
-use ax_ops::Items;
+use ax_module::{Function, Module};
+use ax_words::Items;
 use std::alloc::Global;
 
 /// The functions of a text.
 fn functions_in(
     alloc: Global,
     text: &[u8],
-    globals: &Scope,
+    globals: &NameTable,
     lines: &[Line],
 ) -> Result<Vec<Function>, ScopeFault>
-    requires { length lines.now < 2 ^ 32 }
+    requires few { length lines.now < 2 ^ 32 }
+    requires few_params { All (λ l. param_count l < 2 ^ 32) lines.now }
     ensures built { IfOk result (λ v. v.items ≡ functions_in text.now (look globals.now) lines.now) }
     ensures found { Finds result (first_fault 1 (faults_from text.now (look globals.now) [] None lines.now)) }
 {
@@ -59,11 +62,14 @@ fn functions_in(
 /// globals and functions, or defines a function named `out` or beginning with `__atomic_`
 /// (LLVM Language Reference, Identifiers).
 ///
-/// The names are found in the text. Lines are counted from 1. Memory is wanted where it runs out.
+/// The names are found in the text. Lines are counted from 1; there are fewer than 2^32, and each
+/// states fewer than 2^32 parameters. Memory is wanted where it runs out.
 pub fn module_of(alloc: Global, text: &[u8], lines: &[Line]) -> Result<Module, ScopeFault>
-    requires { length lines.now < 2 ^ 32 }
+    requires few { length lines.now < 2 ^ 32 }
+    requires few_params { All (λ l. param_count l < 2 ^ 32) lines.now }
     ensures fit { OnOk result (NamesFit text.now lines.now) }
     ensures module { IfOk result (λ m. m ≡ module_of text.now lines.now) }
+    ensures counts { IfOk result (λ m. is_counted m ≡ true) }
     ensures fault { IfErr result (λ e. IsFault text.now lines.now e) }
 {
     let scope = globals_of(alloc, text, lines)?;

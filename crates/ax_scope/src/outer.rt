@@ -6,20 +6,21 @@ ghost use Rattle.ax_scope.specs.Faults.{again, outer_name, param_names, is_reser
 ghost use Rattle.ax_scope.specs.Names.{text_at};
 ghost use Rattle.ax_scope.specs.Answers.{Declares, Enters, EntersAt};
 
-use crate::fault::{ScopeFault, Stop};
+use crate::fault::{NameStop, ScopeFault};
 use crate::locals::text_at;
 use crate::seen::Seen;
-use ax_ir::Ty;
-use ax_lines::{Line, Span};
+use ax_lines::Line;
+use ax_module::Ty;
+use ax_symbols::Span;
 use std::alloc::Global;
 
 /// Declares a name where there is one.
-pub fn declare(alloc: Global, so_far: &mut Seen, name: Option<&[u8]>) -> Result<(), Stop>
+pub fn declare(alloc: Global, so_far: &mut Seen, name: Option<&[u8]>) -> Result<(), NameStop>
     ensures { Declares so_far.old so_far.new (option_to_list (option_map (λ n. n.now) name.entry)) result }
 {
     if let Some(name) = name {
         if !so_far.add(alloc, name)? {
-            return Err(Stop::Name);
+            return Err(NameStop::Name);
         }
     }
     Ok(())
@@ -57,19 +58,19 @@ fn declare_params(
     text: &[u8],
     params: &[(Ty, Span)],
     so_far: &mut Seen,
-) -> Result<(), Stop>
+) -> Result<(), NameStop>
     ensures { Declares so_far.old so_far.new (map (λ p. text_at text.now p.1) params.now) result }
 {
     for (_, name) in params {
         if !so_far.add(alloc, text_at(text, *name))? {
-            return Err(Stop::Name);
+            return Err(NameStop::Name);
         }
     }
     Ok(())
 }
 
 #[tactic(auto, unfolding(crate::specs::Faults::param_names))]
-fn params_in(alloc: Global, text: &[u8], line: &Line, so_far: &mut Seen) -> Result<(), Stop>
+fn params_in(alloc: Global, text: &[u8], line: &Line, so_far: &mut Seen) -> Result<(), NameStop>
     ensures { Declares so_far.old so_far.new (param_names text.now line.now) result }
 {
     match line {
@@ -79,11 +80,11 @@ fn params_in(alloc: Global, text: &[u8], line: &Line, so_far: &mut Seen) -> Resu
 }
 
 /// Declares the names of a line outside functions, and gives its parameters.
-pub fn enter(alloc: Global, text: &[u8], names: &mut Seen, line: &Line) -> Result<Seen, Stop>
+pub fn enter(alloc: Global, text: &[u8], names: &mut Seen, line: &Line) -> Result<Seen, NameStop>
     ensures { Enters text.now names.old names.new line.now result }
 {
     if is_reserved(text, line) {
-        return Err(Stop::Name);
+        return Err(NameStop::Name);
     }
     declare(alloc, names, outer_name(text, line))?;
     let mut params = Seen::new(alloc);
@@ -103,7 +104,7 @@ pub fn enter_at(
 {
     match enter(alloc, text, names, line) {
         Ok(params) => Ok(params),
-        Err(Stop::Name) => Err(ScopeFault::Name { line: number }),
-        Err(Stop::Memory) => Err(ScopeFault::Memory),
+        Err(NameStop::Name) => Err(ScopeFault::Name { line: number }),
+        Err(NameStop::Memory) => Err(ScopeFault::Memory),
     }
 }

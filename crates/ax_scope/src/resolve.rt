@@ -7,8 +7,9 @@ ghost use Rattle.ax_scope.specs.Around.{looks};
 
 use crate::locals::{Names, text_at};
 use crate::meaning::Meaning;
-use ax_ir::{Addr, Arg, Base, Operand};
-use ax_lines::{Argument, Base as NamedBase, Path, Pointer, Span, Value};
+use ax_lines::{Argument, Path, Pointer};
+use ax_module::{Addr, Arg, Base, Operand};
+use ax_symbols::{Base as NamedBase, Span, Value};
 
 fn operand_in(meaning: Option<Meaning>) -> Option<Operand>
     ensures { result ≡ operand_in meaning }

@@ -1,7 +1,7 @@
 //! Names that are declared so far.
 
 ghost use Rattle.std.specs.Prelude.{◌≡◌, ◌++◌, ◌∷◌, [], not, IfOk, if◌then◌else◌};
-ghost use Rattle.ax_scope.specs.Scope.{is_among};
+ghost use Rattle.ax_scope.specs.NameTable.{is_among};
 
 use indexmap::IndexSet;
 use std::alloc::{AllocError, Global};

@@ -6,23 +6,23 @@ use Rattle.std.proofs.lemmas.Bool.Decides.{nat_tests}
 use Rattle.std.proofs.lemmas.List.Concat.{length-flat_map}
 use Rattle.std.proofs.lemmas.List.Elements.{Contains-append_left, Contains-append_right}
 use Rattle.std.proofs.lemmas.List.Sums.{sum_by-cons}
-use Rattle.ax_ir.specs.declared.inst.Inst.{Inst}
-use Rattle.ax_ir.specs.declared.module.Block.{Block}
-use Rattle.ax_ir.specs.declared.module.Function.{Function}
-use Rattle.ax_ir.specs.declared.module.Global.{Global}
-use Rattle.ax_ir.specs.declared.operand.Operand.{Operand}
-use Rattle.ax_ir.specs.Kinds as kinds
-use Rattle.ax_ir.specs.WellFormed.{all_differ, is_bit, is_constant, is_function, is_global, is_global_name, is_init, is_type, is_zero, names_of}
+use Rattle.ax_module.specs.declared.inst.Inst.{Inst}
+use Rattle.ax_module.specs.declared.module.Block.{Block}
+use Rattle.ax_module.specs.declared.module.Function.{Function}
+use Rattle.ax_module.specs.declared.module.Global.{Global}
+use Rattle.ax_module.specs.declared.operand.Operand.{Operand}
+use Rattle.ax_module.specs.Kinds as kinds
+use Rattle.ax_module.specs.WellFormed.{all_differ, is_bit, is_constant, is_function, is_global, is_global_name, is_init, is_type, is_zero, names_of}
 use Rattle.ax_layout.specs.Layout.{CanBeLaidOut}
-use Rattle.ax_layout.specs.SourceInstructions.{insts_of_block, is_phi, phi_count}
-use Rattle.ax_layout.specs.SourcePointers.{blocks_in, blocks_of}
-use Rattle.ax_layout.specs.SourceState.{SourceProgram}
+use Rattle.ax_source_run.specs.SourceInstructions.{insts_of_block, is_phi, phi_count}
+use Rattle.ax_source_run.specs.SourcePointers.{blocks_in, blocks_of}
+use Rattle.ax_source_run.specs.SourceState.{SourceProgram}
 use Rattle.ax_rules.specs.Facts.{scope_of}
 use Rattle.ax_rules.specs.Kind.{is_bad_gep, is_bad_pointer, is_other}
 use Rattle.ax_rules.specs.Limits.{has_many_phis, instruction_count}
 use Rattle.ax_rules.specs.Parts.{pointers_of, types_of}
 use Rattle.ax_rules.specs.Points.{AtGlobal, Point, Spot, points_of_functions, points_of_globals, spots_from, spots_of_block}
-use Rattle.ax_rules.specs.Tests.{has_width}
+use Rattle.ax_access_rules.specs.RulesAtPoints.{has_width}
 use Rattle.ax_rules.specs.Width.{has_wide_step, is_left_out, is_odd, memory_types}
 use Rattle.ax_check.specs.Accepted.{IsAccepted}
 use Rattle.ax_check.specs.Laws.{AtInstructions, AtPoints, IsSound, IsSoundHead}

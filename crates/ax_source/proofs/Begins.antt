@@ -4,11 +4,11 @@ use Rattle.std.specs.Prelude.{slice_get, if◌then◌else◌}
 use Rattle.std.proofs.lemmas.Bool.{and_parts}
 use Rattle.std.proofs.lemmas.List.{length-replicate}
 use Rattle.std.proofs.lemmas.List.Elements.{All-map}
-use Rattle.ax_ops.specs.declared.source.SourceStatus.TheVariants.{Running}
+use Rattle.ax_words.specs.declared.source.SourceStatus.TheVariants.{Running}
 use Rattle.ax_target.specs.Targets.{is_buffered}
-use Rattle.ax_layout.specs.SourcePointers.{insts_of}
-use Rattle.ax_layout.specs.SourceRun.{first_processor, source_start}
-use Rattle.ax_layout.specs.SourceState.{SourceProgram}
+use Rattle.ax_source_run.specs.SourcePointers.{insts_of}
+use Rattle.ax_source_run.specs.SourceRun.{first_processor, source_start}
+use Rattle.ax_source_run.specs.SourceState.{SourceProgram}
 use Rattle.ax_cells.specs.declared.value.Value.TheVariants as value
 use Rattle.ax_source.specs.MachineState.{Belongs, IsWhole}
 use Rattle.ax_source.specs.Beginnings.{begun, room_for}

@@ -3,10 +3,10 @@ use Rattle.std.proofs.Common.{◌≡◌, ℕ, zero, suc, ◌+◌, ◌<◌, ◌�
 use Rattle.std.specs.Prelude.{slice_index_or, if◌then◌else◌}
 use Rattle.std.specs.List.{flat_map}
 use Rattle.std.proofs.lemmas.Bool.{cases_lt}
-use Rattle.ax_ir.specs.declared.inst.Inst.{Inst}
-use Rattle.ax_ir.specs.declared.module.Block.{Block}
-use Rattle.ax_layout.specs.SourceInstructions.{first_number, insts_of_block, is_phi, phi_count, phis_set}
-use Rattle.ax_layout.specs.SourceState.{SourceValue}
+use Rattle.ax_module.specs.declared.inst.Inst.{Inst}
+use Rattle.ax_module.specs.declared.module.Block.{Block}
+use Rattle.ax_source_run.specs.SourceInstructions.{first_number, insts_of_block, is_phi, phi_count, phis_set}
+use Rattle.ax_source_run.specs.SourceState.{SourceValue}
 use Rattle.ax_source.specs.Phis.{phi_numbers}
 use Rattle.ax_cells.specs.Shapes.{numbers_put}
 use Rattle.ax_cells.specs.Memories.{starts_from}

@@ -2,11 +2,11 @@
 use Rattle.std.proofs.Common.{◌≡◌, ℕ, zero, suc, ◌/◌, ◌<◌, List, [], ◌∷◌, Some, IsTrue, length, map, refl, ap, arith}
 use Rattle.std.specs.Prelude.{slice_get}
 use Rattle.std.proofs.Math.Nat.{div-zero}
-use Rattle.ax_ir.specs.declared.inst.Inst.{Inst}
-use Rattle.ax_ir.specs.declared.module.Global.{Global}
-use Rattle.ax_ir.specs.declared.module.Module.{Module}
-use Rattle.ax_layout.specs.SourcePointers.{Elements, elements_of, elements_of_alloca, elements_of_global, insts_of, is_element}
-use Rattle.ax_layout.specs.SourceState.{Shared, Private}
+use Rattle.ax_module.specs.declared.inst.Inst.{Inst}
+use Rattle.ax_module.specs.declared.module.Global.{Global}
+use Rattle.ax_module.specs.declared.module.Module.{Module}
+use Rattle.ax_source_run.specs.SourcePointers.{Elements, elements_of, elements_of_alloca, elements_of_global, insts_of, is_element}
+use Rattle.ax_source_run.specs.SourceState.{Shared, Private}
 use Rattle.std.proofs.lemmas.Bool.Decides.{nat_tests}
 use Rattle.ax_cells.specs.declared.value.Object.TheVariants as object
 use Rattle.ax_cells.specs.declared.value.Pointer.{Pointer}

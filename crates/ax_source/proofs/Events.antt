@@ -3,12 +3,12 @@ use Rattle.std.proofs.Common.{◌≡◌, ℕ, zero, suc, ◌<◌, Bool, true, fa
 use Rattle.std.specs.Prelude.{slice_get, slice_index_or, slice_set, nat_eq, if◌then◌else◌}
 use Rattle.std.proofs.lemmas.Bool.Decides.{nat_tests}
 use Rattle.std.proofs.lemmas.Option.{slice_get-get_or}
-use Rattle.ax_ir.specs.declared.inst.Inst.{Inst}
-use Rattle.ax_ops.specs.declared.source.SourceEvent.{SourceEvent}
-use Rattle.ax_ops.specs.declared.source.SourceEvent.TheVariants.{Act, Look, Miss, Drain}
-use Rattle.ax_layout.specs.SourceAccess.{element_set, gets, put_at, written_out}
-use Rattle.ax_layout.specs.SourceEvent.{act, after, drained, expected_by, look, looked, miss, missed, next_inst, number_of_next, outputs_of, seen_by, source_event, with_processor}
-use Rattle.ax_layout.specs.SourceState.{Pair, PendingStore, SourceProcessor, SourceProgram, SourceState}
+use Rattle.ax_module.specs.declared.inst.Inst.{Inst}
+use Rattle.ax_words.specs.declared.source.SourceEvent.{SourceEvent}
+use Rattle.ax_words.specs.declared.source.SourceEvent.TheVariants.{Act, Look, Miss, Drain}
+use Rattle.ax_source_run.specs.SourceAccess.{element_set, gets, put_at, written_out}
+use Rattle.ax_source_run.specs.SourceEvent.{act, after, drained, expected_by, look, looked, miss, missed, next_inst, number_of_next, outputs_of, seen_by, source_event, with_processor}
+use Rattle.ax_source_run.specs.SourceState.{Pair, PendingStore, SourceProcessor, SourceProgram, SourceState}
 use Rattle.ax_source.specs.Accesses.{Does, act_deed}
 use Rattle.ax_source.specs.MachineSteps.{alone, event_deed, look_of, looked_at, miss_of, missed_at, named_by, processor_at, processors_of, state_of}
 use Rattle.ax_source.specs.MachineState.{MachineState}

@@ -3,19 +3,19 @@ use Rattle.std.proofs.Common.{◌≡◌, ℕ, zero, suc, ◌+◌, ◌<◌, Bool,
 use Rattle.std.specs.Prelude.{slice_index_or}
 use Rattle.std.specs.List.{list_all}
 use Rattle.std.proofs.lemmas.Bool.{and_parts}
-use Rattle.ax_ir.specs.declared.operand.Addr.{Addr}
-use Rattle.ax_ir.specs.declared.operand.Arg.{Arg}
-use Rattle.ax_ir.specs.declared.operand.Arg.TheVariants as arg
-use Rattle.ax_ir.specs.declared.operand.Operand.{Operand}
-use Rattle.ax_ir.specs.declared.types.Ty.{Ty}
-use Rattle.ax_ir.specs.declared.inst.Inst.{Inst}
-use Rattle.ax_ir.specs.declared.inst.Inst.TheVariants as inst
-use Rattle.ax_ops.specs.declared.routine.RoutineName.{RoutineName}
-use Rattle.ax_ops.specs.Routine.{routine_named}
-use Rattle.ax_layout.specs.SourceAccess.{Access, ObjectOperation, Reply}
-use Rattle.ax_layout.specs.SourceCalls.{RoutineKind, SizedLoad, SizedStore, SizedUpdate, SizedCompare, GenericLoad, GenericStore, GenericExchange, GenericCompare, IsLockFree, call_of, kind_of, pointer_at}
-use Rattle.ax_layout.specs.SourceInstructions.{access_of, is_inside, is_unreachable, pointers_of, routine_access, traps}
-use Rattle.ax_layout.specs.SourceState.{Pointer}
+use Rattle.ax_module.specs.declared.operand.Addr.{Addr}
+use Rattle.ax_module.specs.declared.operand.Arg.{Arg}
+use Rattle.ax_module.specs.declared.operand.Arg.TheVariants as arg
+use Rattle.ax_module.specs.declared.operand.Operand.{Operand}
+use Rattle.ax_module.specs.declared.types.Ty.{Ty}
+use Rattle.ax_module.specs.declared.inst.Inst.{Inst}
+use Rattle.ax_module.specs.declared.inst.Inst.TheVariants as inst
+use Rattle.ax_words.specs.declared.routine.RoutineName.{RoutineName}
+use Rattle.ax_words.specs.Routine.{routine_named}
+use Rattle.ax_source_run.specs.SourceAccess.{Access, ObjectOperation, Reply}
+use Rattle.ax_source_run.specs.SourceCalls.{RoutineKind, SizedLoad, SizedStore, SizedUpdate, SizedCompare, GenericLoad, GenericStore, GenericExchange, GenericCompare, IsLockFree, call_of, kind_of, pointer_at}
+use Rattle.ax_source_run.specs.SourceInstructions.{access_of, is_inside, is_unreachable, pointers_of, routine_access, traps}
+use Rattle.ax_source_run.specs.SourceState.{Pointer}
 use Rattle.ax_source.specs.Accesses.{IsPerformable, is_answerable, is_element_of}
 use Rattle.ax_source.specs.Calls.{has_pointers, is_pointer_at, routine_has_pointers}
 use Rattle.ax_source.specs.ProcessorState.{ProcessorState, state_of}

@@ -5,21 +5,21 @@ use Rattle.std.specs.List.{list_all, flat_map}
 use Rattle.std.proofs.lemmas.Bool.{and_parts, and_from}
 use Rattle.std.proofs.lemmas.Bool.Decides.{nat_tests}
 use Rattle.std.proofs.lemmas.List.Folds.{list_all-append}
-use Rattle.ax_ir.specs.declared.inst.Inst.{Inst}
-use Rattle.ax_ir.specs.declared.inst.Inst.TheVariants as inst
-use Rattle.ax_ir.specs.declared.module.Block.{Block}
-use Rattle.ax_ir.specs.declared.module.Function.{Function}
-use Rattle.ax_ir.specs.declared.module.Global.{Global}
-use Rattle.ax_ir.specs.declared.module.Module.{Module}
-use Rattle.ax_ir.specs.declared.types.Ty.{Ty}
-use Rattle.ax_layout.specs.SourceInstructions.{insts_of_block}
-use Rattle.ax_layout.specs.SourcePointers.{blocks_in, blocks_of, elements_of, elements_of_alloca, elements_of_global, insts_of}
-use Rattle.ax_layout.specs.SourceState.{Object, Shared, Private}
-use Rattle.ax_layout.specs.SourceValues.{type_bits}
-use Rattle.ax_ir.specs.declared.operand.Addr.{Addr}
-use Rattle.ax_ir.specs.declared.operand.Arg.{Arg}
-use Rattle.ax_ir.specs.declared.operand.Arg.TheVariants as arg
-use Rattle.ax_ir.specs.declared.operand.Operand.{Operand}
+use Rattle.ax_module.specs.declared.inst.Inst.{Inst}
+use Rattle.ax_module.specs.declared.inst.Inst.TheVariants as inst
+use Rattle.ax_module.specs.declared.module.Block.{Block}
+use Rattle.ax_module.specs.declared.module.Function.{Function}
+use Rattle.ax_module.specs.declared.module.Global.{Global}
+use Rattle.ax_module.specs.declared.module.Module.{Module}
+use Rattle.ax_module.specs.declared.types.Ty.{Ty}
+use Rattle.ax_source_run.specs.SourceInstructions.{insts_of_block}
+use Rattle.ax_source_run.specs.SourcePointers.{blocks_in, blocks_of, elements_of, elements_of_alloca, elements_of_global, insts_of}
+use Rattle.ax_source_run.specs.SourceState.{Object, Shared, Private}
+use Rattle.ax_source_run.specs.SourceValues.{type_bits}
+use Rattle.ax_module.specs.declared.operand.Addr.{Addr}
+use Rattle.ax_module.specs.declared.operand.Arg.{Arg}
+use Rattle.ax_module.specs.declared.operand.Arg.TheVariants as arg
+use Rattle.ax_module.specs.declared.operand.Operand.{Operand}
 use Rattle.ax_source.specs.Runnable.{are_narrow, is_narrow_addr, is_narrow_arg, is_narrow_inst}
 use Rattle.ax_cells.specs.Narrow.{is_narrow, is_narrow_global}
 

@@ -3,16 +3,16 @@ use Rattle.std.proofs.Common.{◌≡◌, ℕ, Bool, ◌≤◌, ◌<◌, Option, 
 use Rattle.std.specs.Prelude.{slice_get, slice_index_or}
 use Rattle.std.proofs.lemmas.List.Elements.{All-get_or}
 use Rattle.std.proofs.lemmas.Option.{slice_get_within, get_or_from_slice_get}
-use Rattle.ax_ir.specs.declared.module.Global.{Global}
-use Rattle.ax_ir.specs.declared.module.Module.{Module}
-use Rattle.ax_ir.specs.Types.{type_bytes}
+use Rattle.ax_module.specs.declared.module.Global.{Global}
+use Rattle.ax_module.specs.declared.module.Module.{Module}
+use Rattle.ax_module.specs.Types.{type_bytes}
 use Rattle.ax_layout.specs.Layout.{CanBeLaidOut, HasElement, IsLaidOut, LayoutState, address_in, bytes_in, layout_of}
 use Rattle.ax_target.specs.declared.target.Target.{Target}
-use Rattle.ax_ir.specs.declared.types.Ty.{Ty}
+use Rattle.ax_module.specs.declared.types.Ty.{Ty}
 use Rattle.ax_layout.specs.Classes.{class_of}
-use Rattle.ax_layout.specs.SourceAccess.{is_native_class, is_native_element}
-use Rattle.ax_layout.specs.SourcePointers.{Elements, elements_of, elements_of_global}
-use Rattle.ax_layout.specs.SourceState.{Shared, SourceProgram}
+use Rattle.ax_source_run.specs.SourceAccess.{is_native_class, is_native_element}
+use Rattle.ax_source_run.specs.SourcePointers.{Elements, elements_of, elements_of_global}
+use Rattle.ax_source_run.specs.SourceState.{Shared, SourceProgram}
 use Rattle.ax_layout.proofs.Elements.{lie, those}
 use Rattle.ax_source.specs.Runnable.{IsRunnable}
 use Rattle.ax_cells.specs.Shapes.{IsCell, global_shapes}

@@ -4,11 +4,11 @@ use Rattle.std.specs.Prelude.{slice_get, slice_index_or, option_copied, is_some}
 use Rattle.std.specs.List.{flat_map}
 use Rattle.std.proofs.lemmas.Grind.{common_steps}
 use Rattle.std.specs.Borrow.{Bor}
-use Rattle.ax_ir.specs.declared.inst.Inst.{Inst}
-use Rattle.ax_ir.specs.declared.module.Block.{Block}
-use Rattle.ax_layout.specs.SourceEvent.{inst_at, number_of_next}
-use Rattle.ax_layout.specs.SourceInstructions.{first_number, insts_of_block}
-use Rattle.ax_layout.specs.SourcePointers.{blocks_of}
+use Rattle.ax_module.specs.declared.inst.Inst.{Inst}
+use Rattle.ax_module.specs.declared.module.Block.{Block}
+use Rattle.ax_source_run.specs.SourceEvent.{inst_at, number_of_next}
+use Rattle.ax_source_run.specs.SourceInstructions.{first_number, insts_of_block}
+use Rattle.ax_source_run.specs.SourcePointers.{blocks_of}
 use Rattle.ax_source.proofs.Narrow.{inst_narrow}
 use Rattle.ax_source.specs.ProcessorState.{ProcessorState, IsFound, IsSound, Stands, insts_in, state_of}
 use Rattle.ax_cells.specs.Memories.{starts_from}

@@ -5,11 +5,11 @@ use Rattle.std.specs.List.{flat_map, list_all}
 use Rattle.std.proofs.lemmas.Bool.{and_parts}
 use Rattle.ax_source.specs.Runnable.{is_narrow_inst}
 use Rattle.std.proofs.lemmas.Grind.{common_steps}
-use Rattle.ax_ir.specs.declared.inst.Inst.{Inst}
-use Rattle.ax_ir.specs.declared.module.Block.{Block}
-use Rattle.ax_layout.specs.SourceAccess.{put_at}
-use Rattle.ax_layout.specs.SourceInstructions.{first_number, insts_of_block, is_phi, phi_count, phi_number, phis_set}
-use Rattle.ax_layout.specs.SourceState.{SourceValue, Number}
+use Rattle.ax_module.specs.declared.inst.Inst.{Inst}
+use Rattle.ax_module.specs.declared.module.Block.{Block}
+use Rattle.ax_source_run.specs.SourceAccess.{put_at}
+use Rattle.ax_source_run.specs.SourceInstructions.{first_number, insts_of_block, is_phi, phi_count, phi_number, phis_set}
+use Rattle.ax_source_run.specs.SourceState.{SourceValue, Number}
 use Rattle.ax_source.specs.Phis.{phi_number_of, phi_numbers}
 use Rattle.ax_cells.specs.Shapes.{numbers_put}
 

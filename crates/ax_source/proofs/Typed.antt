@@ -4,17 +4,17 @@ use Rattle.std.specs.List.{list_all, list_any}
 use Rattle.std.specs.Cmp.Lexicographic.{pointwise}
 use Rattle.std.proofs.lemmas.Bool.{and_from, and_parts, eqb-true, or_parts, true≢false, false≢true}
 use Rattle.std.proofs.lemmas.List.Folds.{list_any-append}
-use Rattle.ax_ir.specs.declared.inst.Inst.{Inst}
-use Rattle.ax_ir.specs.declared.inst.Inst.TheVariants as inst
-use Rattle.ax_ir.specs.declared.operand.Arg.{Arg}
-use Rattle.ax_ir.specs.declared.operand.Arg.TheVariants as arg
-use Rattle.ax_ir.specs.declared.operand.Operand.{Operand}
-use Rattle.ax_ir.specs.declared.types.Ty.{Ty}
-use Rattle.ax_ir.specs.declared.types.Ty.TheVariants.{I1, I8, I16, I32, I64, I128, Int, Float, Double, Ptr, Vector}
-use Rattle.ax_ops.specs.declared.routine.RoutineName.{RoutineName}
-use Rattle.ax_ops.specs.Routine.{name_of, routine_named}
-use Rattle.ax_layout.specs.SourceCalls.{RoutineKind, SizedLoad, SizedStore, SizedUpdate, SizedCompare, GenericLoad, GenericStore, GenericExchange, GenericCompare, IsLockFree, kind_of}
-use Rattle.ax_layout.specs.SourceInstructions.{is_out}
+use Rattle.ax_module.specs.declared.inst.Inst.{Inst}
+use Rattle.ax_module.specs.declared.inst.Inst.TheVariants as inst
+use Rattle.ax_module.specs.declared.operand.Arg.{Arg}
+use Rattle.ax_module.specs.declared.operand.Arg.TheVariants as arg
+use Rattle.ax_module.specs.declared.operand.Operand.{Operand}
+use Rattle.ax_module.specs.declared.types.Ty.{Ty}
+use Rattle.ax_module.specs.declared.types.Ty.TheVariants.{I1, I8, I16, I32, I64, I128, Int, Float, Double, Ptr, Vector}
+use Rattle.ax_words.specs.declared.routine.RoutineName.{RoutineName}
+use Rattle.ax_words.specs.Routine.{name_of, routine_named}
+use Rattle.ax_source_run.specs.SourceCalls.{RoutineKind, SizedLoad, SizedStore, SizedUpdate, SizedCompare, GenericLoad, GenericStore, GenericExchange, GenericCompare, IsLockFree, kind_of}
+use Rattle.ax_source_run.specs.SourceInstructions.{is_out}
 use Rattle.ax_rules.specs.Kind.{is_other}
 use Rattle.ax_rules.specs.Parts.{arg_types, result_types, same_type, step_types, types_of}
 use Rattle.ax_rules.specs.Signatures.{arg_type, argument_types, called_if, fits_out, fits_routine, is_some_routine, result_type, same_result, shape_of, shape_of_kind, type_of_routine, user_call}

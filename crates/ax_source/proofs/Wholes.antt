@@ -3,8 +3,8 @@ use Rattle.std.proofs.Common.{◌≡◌, ℕ, ◌+◌, ◌-◌, ◌≤◌, ◌<�
 use Rattle.std.specs.Prelude.{slice_index_or, slice_set, IfSome}
 use Rattle.std.proofs.lemmas.List.Elements.{All-set}
 use Rattle.ax_target.specs.Targets.{is_buffered}
-use Rattle.ax_layout.specs.SourceEvent.{outputs_of}
-use Rattle.ax_layout.specs.SourceState.{SourceProgram}
+use Rattle.ax_source_run.specs.SourceEvent.{outputs_of}
+use Rattle.ax_source_run.specs.SourceState.{SourceProgram}
 use Rattle.ax_source.specs.Accesses.{HasRoom}
 use Rattle.ax_source.specs.MachineState.{Belongs, IsWhole, MachineState}
 use Rattle.ax_source.specs.ProcessorState.{ProcessorState}

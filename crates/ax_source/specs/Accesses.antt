@@ -1,12 +1,12 @@
 -- Operations on objects, as the machine keeps them.
 use Rattle.std.specs.Prelude.{◌≡◌, ◌≤◌, ◌<◌, ◌+◌, ℕ, Bool, true, IsTrue, List, Option, Some, None}
 use Rattle.ax_target.specs.Targets.{is_buffered}
-use Rattle.ax_layout.specs.SourceAccess.{Access as SourceAccess, Deed, Done, ObjectOperation, Reads, Writes, Updates, Compares, Reply as SourceReply, Silent, Found, FoundEqual, Into, EqualOrInto}
-use Rattle.ax_layout.specs.SourcePointers.{is_element}
-use Rattle.ax_ir.specs.declared.inst.Inst.{Inst}
-use Rattle.ax_layout.specs.SourceEvent.{number_of_next}
-use Rattle.ax_layout.specs.SourceInstructions.{deed}
-use Rattle.ax_layout.specs.SourceState.{Pointer, SourceProcessor, SourceProgram}
+use Rattle.ax_source_run.specs.SourceAccess.{Access as SourceAccess, Deed, Done, ObjectOperation, Reads, Writes, Updates, Compares, Reply as SourceReply, Silent, Found, FoundEqual, Into, EqualOrInto}
+use Rattle.ax_source_run.specs.SourcePointers.{is_element}
+use Rattle.ax_module.specs.declared.inst.Inst.{Inst}
+use Rattle.ax_source_run.specs.SourceEvent.{number_of_next}
+use Rattle.ax_source_run.specs.SourceInstructions.{deed}
+use Rattle.ax_source_run.specs.SourceState.{Pointer, SourceProcessor, SourceProgram}
 use Rattle.ax_source.specs.declared.access.Access.{Access}
 use Rattle.ax_source.specs.declared.access.Operation.{Operation}
 use Rattle.ax_source.specs.declared.access.Operation.TheVariants as operation

@@ -1,9 +1,9 @@
 -- Processors at their first instructions.
 use Rattle.std.specs.Prelude.{ℕ, [], None, if◌then◌else◌, length, map, replicate}
-use Rattle.ax_ops.specs.declared.source.SourceStatus.TheVariants.{Running}
+use Rattle.ax_words.specs.declared.source.SourceStatus.TheVariants.{Running}
 use Rattle.ax_target.specs.Targets.{is_buffered}
-use Rattle.ax_layout.specs.SourcePointers.{insts_of}
-use Rattle.ax_layout.specs.SourceState.{SourceProgram}
+use Rattle.ax_source_run.specs.SourcePointers.{insts_of}
+use Rattle.ax_source_run.specs.SourceState.{SourceProgram}
 use Rattle.ax_cells.specs.declared.value.Value.TheVariants as value
 use Rattle.ax_cells.specs.Memories.{zeros_of}
 use Rattle.ax_cells.specs.PendingState.{counts_for}

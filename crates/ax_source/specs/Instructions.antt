@@ -1,9 +1,9 @@
 -- Pointers of instructions that lie inside their objects.
 use Rattle.std.specs.Prelude.{Bool, not, List}
 use Rattle.std.specs.List.{flat_map, list_any}
-use Rattle.ax_ir.specs.declared.operand.Addr.{Addr}
-use Rattle.ax_ir.specs.declared.operand.Arg.{Arg}
-use Rattle.ax_layout.specs.SourceInstructions.{is_inside, pointers_of_arg}
+use Rattle.ax_module.specs.declared.operand.Addr.{Addr}
+use Rattle.ax_module.specs.declared.operand.Arg.{Arg}
+use Rattle.ax_source_run.specs.SourceInstructions.{is_inside, pointers_of_arg}
 use Rattle.ax_source.specs.ProcessorState.{ProcessorState, state_of}
 
 -- whether one of these pointers names no element

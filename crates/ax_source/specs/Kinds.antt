@@ -1,7 +1,7 @@
 -- What routines do, as the machine keeps it.
 use Rattle.ax_source.specs.declared.calls.Kind.{Kind}
 use Rattle.ax_source.specs.declared.calls.Kind.TheVariants as kind
-use Rattle.ax_layout.specs.SourceCalls.{RoutineKind, SizedLoad, SizedStore, SizedUpdate, SizedCompare, GenericLoad, GenericStore, GenericExchange, GenericCompare, IsLockFree}
+use Rattle.ax_source_run.specs.SourceCalls.{RoutineKind, SizedLoad, SizedStore, SizedUpdate, SizedCompare, GenericLoad, GenericStore, GenericExchange, GenericCompare, IsLockFree}
 
 abbrev pub kind_in : Kind → RoutineKind
 kind_in kind.SizedLoad = SizedLoad

@@ -1,8 +1,8 @@
 -- What contracts see of the source machine.
 use Rattle.std.specs.Prelude.{◌≡◌, ◌≤◌, ℕ, true, All, List, Option, Some, None, slice_get}
 use Rattle.ax_target.specs.Targets.{is_buffered}
-use Rattle.ax_layout.specs.SourceRun.{first_processor}
-use Rattle.ax_layout.specs.SourceState.{SourceProcessor, SourceProgram, SourceState}
+use Rattle.ax_source_run.specs.SourceRun.{first_processor}
+use Rattle.ax_source_run.specs.SourceState.{SourceProcessor, SourceProgram, SourceState}
 use Rattle.ax_source.specs.ProcessorState.{ProcessorState, state_of as processor_of}
 use Rattle.ax_source.specs.Runnable.{IsRunnable}
 use Rattle.ax_cells.specs.Shapes.{ArrayState, cells_of, global_shapes, shapes_of}

@@ -1,13 +1,13 @@
 -- What an event does to a machine.
 pub use Rattle.ax_source.specs.MachineState.{processor_at, processors_of, state_of}
 use Rattle.std.specs.Prelude.{◌≡◌, ◌<◌, ℕ, false, nat_eq, if◌then◌else◌, Option, Some, None, length, drop, take}
-use Rattle.ax_ir.specs.declared.inst.Inst.{Inst}
-use Rattle.ax_ops.specs.declared.source.SourceEvent.{SourceEvent}
-use Rattle.ax_ops.specs.declared.source.SourceEvent.TheVariants.{Act, Look, Miss, Drain}
-use Rattle.ax_layout.specs.SourceAccess.{Deed, gets, written_out}
-use Rattle.ax_layout.specs.SourceEvent.{expected_by, next_inst, number_of_next, seen_by}
-use Rattle.ax_layout.specs.SourcePointers.{elements_of}
-use Rattle.ax_layout.specs.SourceState.{Pair, Shared, SourceProcessor, SourceProgram}
+use Rattle.ax_module.specs.declared.inst.Inst.{Inst}
+use Rattle.ax_words.specs.declared.source.SourceEvent.{SourceEvent}
+use Rattle.ax_words.specs.declared.source.SourceEvent.TheVariants.{Act, Look, Miss, Drain}
+use Rattle.ax_source_run.specs.SourceAccess.{Deed, gets, written_out}
+use Rattle.ax_source_run.specs.SourceEvent.{expected_by, next_inst, number_of_next, seen_by}
+use Rattle.ax_source_run.specs.SourcePointers.{elements_of}
+use Rattle.ax_source_run.specs.SourceState.{Pair, Shared, SourceProcessor, SourceProgram}
 use Rattle.ax_source.specs.Accesses.{act_deed}
 use Rattle.ax_source.specs.MachineState.{MachineState}
 

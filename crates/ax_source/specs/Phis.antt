@@ -1,8 +1,8 @@
 -- Phis that are set together, by the numbers that come to them.
 use Rattle.std.specs.Prelude.{ℕ, List, [], ◌∷◌, Option, Some, None, if◌then◌else◌}
-use Rattle.ax_ir.specs.declared.inst.Inst.{Inst}
-use Rattle.ax_layout.specs.SourceInstructions.{is_phi, phi_number}
-use Rattle.ax_layout.specs.SourceState.{SourceValue}
+use Rattle.ax_module.specs.declared.inst.Inst.{Inst}
+use Rattle.ax_source_run.specs.SourceInstructions.{is_phi, phi_number}
+use Rattle.ax_source_run.specs.SourceState.{SourceValue}
 
 -- the number that comes to a phi
 abbrev pub phi_number_of : ℕ → (ℕ → SourceValue) → Inst → Option ℕ

@@ -1,11 +1,11 @@
 -- What contracts see of a processor.
 use Rattle.std.specs.Prelude.{◌≡◌, ◌<◌, ℕ, List, [], Option, Some, None, IsSome, IsTrue, length}
-use Rattle.ax_ir.specs.declared.inst.Inst.{Inst}
-use Rattle.ax_ir.specs.declared.module.Block.{Block}
-use Rattle.ax_ops.specs.declared.source.SourceStatus.{SourceStatus}
-use Rattle.ax_layout.specs.SourceEvent.{inst_at}
-use Rattle.ax_layout.specs.SourcePointers.{insts_of}
-use Rattle.ax_layout.specs.SourceState.{SourceProcessor, SourceProgram}
+use Rattle.ax_module.specs.declared.inst.Inst.{Inst}
+use Rattle.ax_module.specs.declared.module.Block.{Block}
+use Rattle.ax_words.specs.declared.source.SourceStatus.{SourceStatus}
+use Rattle.ax_source_run.specs.SourceEvent.{inst_at}
+use Rattle.ax_source_run.specs.SourcePointers.{insts_of}
+use Rattle.ax_source_run.specs.SourceState.{SourceProcessor, SourceProgram}
 use Rattle.ax_cells.specs.declared.value.Value.{Value}
 use Rattle.ax_cells.specs.PendingState.{PendingState, HaveCells, counts_in}
 use Rattle.ax_source.specs.Runnable.{IsRunnable, is_narrow_inst}

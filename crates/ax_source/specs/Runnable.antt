@@ -1,22 +1,22 @@
 -- What the source machine asks of a module.
 use Rattle.std.specs.Prelude.{◌≡◌, ◌≤◌, ℕ, Bool, true, ◌&&◌, IsTrue, Option, Some, None, length}
 use Rattle.std.specs.List.{list_all}
-use Rattle.ax_ir.specs.declared.inst.Inst.{Inst}
-use Rattle.ax_ir.specs.declared.inst.Inst.TheVariants.{Bin, Icmp, Select, Convert, Phi, Alloca, Gep, Load, LoadAtomic, Store, StoreAtomic, Cmpxchg, Rmw, Call}
-use Rattle.ax_ir.specs.declared.module.Block.{Block}
-use Rattle.ax_ir.specs.declared.module.Function.{Function}
-use Rattle.ax_ir.specs.declared.module.Module.{Module}
-use Rattle.ax_ir.specs.declared.operand.Addr.{Addr}
-use Rattle.ax_ir.specs.declared.operand.Arg.{Arg}
-use Rattle.ax_ir.specs.declared.operand.Arg.TheVariants as arg
-use Rattle.ax_ir.specs.declared.operand.Operand.{Operand}
-use Rattle.ax_ir.specs.declared.types.Ty.{Ty}
-use Rattle.ax_ops.specs.Routine.{routine_named}
+use Rattle.ax_module.specs.declared.inst.Inst.{Inst}
+use Rattle.ax_module.specs.declared.inst.Inst.TheVariants.{Bin, Icmp, Select, Convert, Phi, Alloca, Gep, Load, LoadAtomic, Store, StoreAtomic, Cmpxchg, Rmw, Call}
+use Rattle.ax_module.specs.declared.module.Block.{Block}
+use Rattle.ax_module.specs.declared.module.Function.{Function}
+use Rattle.ax_module.specs.declared.module.Module.{Module}
+use Rattle.ax_module.specs.declared.operand.Addr.{Addr}
+use Rattle.ax_module.specs.declared.operand.Arg.{Arg}
+use Rattle.ax_module.specs.declared.operand.Arg.TheVariants as arg
+use Rattle.ax_module.specs.declared.operand.Operand.{Operand}
+use Rattle.ax_module.specs.declared.types.Ty.{Ty}
+use Rattle.ax_words.specs.Routine.{routine_named}
 use Rattle.ax_source.specs.Calls.{routine_has_pointers}
 use Rattle.ax_layout.specs.Layout.{CanBeLaidOut, layout_of}
-use Rattle.ax_layout.specs.SourceInstructions.{insts_of_block, phi_count}
-use Rattle.ax_layout.specs.SourcePointers.{blocks_of, insts_of}
-use Rattle.ax_layout.specs.SourceState.{SourceProgram}
+use Rattle.ax_source_run.specs.SourceInstructions.{insts_of_block, phi_count}
+use Rattle.ax_source_run.specs.SourcePointers.{blocks_of, insts_of}
+use Rattle.ax_source_run.specs.SourceState.{SourceProgram}
 use Rattle.ax_cells.specs.Narrow.{is_narrow, is_narrow_global}
 
 abbrev pub is_narrow_step : Option (Ty × ℕ × Ty × Operand) → Bool

@@ -1,11 +1,11 @@
 //! Operations on objects.
 
 ghost use Rattle.std.specs.Prelude.{◌≡◌, ◌≤◌, IsTrue, None};
-ghost use Rattle.ax_layout.specs.SourceAccess.{is_expected, is_native_class, is_native_element, object_done, acts_on, waits, set_if, stored_by, replied, accessed, written_into, written_out};
+ghost use Rattle.ax_source_run.specs.SourceAccess.{is_expected, is_native_class, is_native_element, object_done, acts_on, waits, set_if, stored_by, replied, accessed, written_into, written_out};
 ghost use Rattle.ax_layout.specs.Classes.{class_of};
-ghost use Rattle.ax_layout.specs.SourcePointers.{elements_of, is_element};
-ghost use Rattle.ax_layout.specs.SourceState.{Shared, Private};
-ghost use Rattle.ax_layout.specs.SourceValues.{type_bits};
+ghost use Rattle.ax_source_run.specs.SourcePointers.{elements_of, is_element};
+ghost use Rattle.ax_source_run.specs.SourceState.{Shared, Private};
+ghost use Rattle.ax_source_run.specs.SourceValues.{type_bits};
 ghost use Rattle.ax_target.specs.Targets.{is_buffered};
 ghost use Rattle.ax_source.specs.Accesses.{Did, Does, HasRoom, IsAnswerable, IsPerformable, Went, access_in, operation_of, reply_of};
 ghost use Rattle.ax_source.specs.ProcessorState.{Kept, Stands, state_of};
@@ -14,9 +14,9 @@ ghost use Rattle.ax_cells.specs.Values.{pointer_of};
 
 use crate::processor::Processor;
 use ax_cells::{Arrays, Object, Pointer, Value, Waiting};
-use ax_ops::RmwOp;
 use ax_target::{Target, buffered, max_native};
 use ax_values::update;
+use ax_words::RmwOp;
 
 /// What an operation does to the number that it finds. A compare-exchange has the expected and the
 /// desired number.

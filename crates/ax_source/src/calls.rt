@@ -2,8 +2,8 @@
 
 ghost use Rattle.std.specs.Prelude.{◌≡◌, ◌<◌, ◌+◌, IsTrue, Some, false, option_map, slice_get, slice_index_or};
 ghost use Rattle.std.specs.List.{list_all};
-ghost use Rattle.ax_layout.specs.SourceCalls.{IsLockFree, SizedLoad, call, call_of, content_at, generic_kinds, kind_of, number_at, pointer_at, sized_kinds};
-ghost use Rattle.ax_layout.specs.SourceAccess.{Compares, EqualOrInto};
+ghost use Rattle.ax_source_run.specs.SourceCalls.{IsLockFree, SizedLoad, call, call_of, content_at, generic_kinds, kind_of, number_at, pointer_at, sized_kinds};
+ghost use Rattle.ax_source_run.specs.SourceAccess.{Compares, EqualOrInto};
 ghost use Rattle.ax_source.specs.Accesses.{access_in, operation_of, reply_of};
 ghost use Rattle.ax_source.specs.Kinds.{kind_in};
 ghost use Rattle.ax_source.specs.ProcessorState.{state_of};
@@ -13,8 +13,8 @@ ghost use Rattle.ax_cells.specs.Values.{pointer_of};
 use crate::access::{Access, Operation, Reply};
 use crate::processor::Processor;
 use ax_cells::{Object, Pointer, Value};
-use ax_ir::Arg;
-use ax_ops::{RmwOp, RoutineName};
+use ax_module::Arg;
+use ax_words::{RmwOp, RoutineName};
 
 /// What a routine does, of a size that its name or its first argument states.
 #[derive(Clone, Copy)]
@@ -63,7 +63,7 @@ fn generic(n: u32) -> Kind
 
 impl Kind {
     /// What a routine does.
-    #[tactic(auto, unfolding(ax_layout::specs::SourceCalls::kind_of))]
+    #[tactic(auto, unfolding(ax_source_run::specs::SourceCalls::kind_of))]
     pub(crate) fn of(routine: RoutineName) -> Kind
         ensures { kind_in result ≡ kind_of routine }
     {

@@ -1,10 +1,10 @@
 //! What an event of a processor does to it and to the globals.
 
 ghost use Rattle.std.specs.Prelude.{◌≡◌, IsTrue, None, false, nat_eq, if◌then◌else◌};
-ghost use Rattle.ax_layout.specs.SourceInstructions.{access_of, deed, deed_of, done_by, fenced, is_out, out_number, result_in, traps, written};
-ghost use Rattle.ax_layout.specs.SourceEvent.{next_inst};
-ghost use Rattle.ax_layout.specs.SourceValues.{operand_of};
-ghost use Rattle.ax_ir.specs.declared.types.Ty.TheVariants.{I1};
+ghost use Rattle.ax_source_run.specs.SourceInstructions.{access_of, deed, deed_of, done_by, fenced, is_out, out_number, result_in, traps, written};
+ghost use Rattle.ax_source_run.specs.SourceEvent.{next_inst};
+ghost use Rattle.ax_source_run.specs.SourceValues.{operand_of};
+ghost use Rattle.ax_module.specs.declared.types.Ty.TheVariants.{I1};
 ghost use Rattle.ax_source.specs.Accesses.{Does, HasRoom, Went, act_deed};
 ghost use Rattle.ax_source.specs.ProcessorState.{Kept, Stands, state_of};
 ghost use Rattle.ax_source.specs.Runnable.{is_narrow_arg, is_narrow_inst};
@@ -14,7 +14,7 @@ ghost use Rattle.ax_cells.specs.Shapes.{cells_of, global_shapes, shapes_of};
 use crate::instructions::is_seq_cst;
 use crate::processor::Processor;
 use ax_cells::Arrays;
-use ax_ir::{Arg, Inst, Name, Operand, Ty};
+use ax_module::{Arg, Inst, Name, Operand, Ty};
 
 /// Whether a call is one of `@out`.
 fn is_out(name: &Name) -> bool
@@ -110,7 +110,7 @@ impl<'a> Processor<'a> {
     }
 
     /// Instruction `k`, which doesn't trap, and the number that it writes out.
-    #[tactic(auto, unfolding(ax_layout::specs::SourceInstructions::deed_of, crate::specs::Runnable::is_narrow_inst))]
+    #[tactic(auto, unfolding(ax_source_run::specs::SourceInstructions::deed_of, crate::specs::Runnable::is_narrow_inst))]
     fn deed_of(&mut self, globals: &mut Arrays, k: usize, inst: &Inst) -> Option<u128>
         requires globals { shapes_of globals.old ≡ global_shapes self.old.program.source }
         requires stands { Stands self.old k }

@@ -8,7 +8,7 @@ ghost use Rattle.ax_cells.specs.Shapes.{cells_of, global_shapes, shapes_of};
 
 use crate::processor::Processor;
 use ax_cells::Arrays;
-use ax_ops::SourceEvent;
+use ax_words::SourceEvent;
 
 impl<'a> Processor<'a> {
     /// An event that names this processor. The answer is the number that it writes out, if it does.

@@ -2,9 +2,9 @@
 
 ghost use Rattle.std.specs.Prelude.{◌≡◌, IsTrue, false, option_map};
 ghost use Rattle.std.specs.List.{list_all};
-ghost use Rattle.ax_layout.specs.SourcePointers.{is_element};
-ghost use Rattle.ax_layout.specs.SourceInstructions.{access_of, is_seq_cst, lock_free_at, result_in, routine_access, routine_result, store_may_wait, traps, width_of};
-ghost use Rattle.ax_ops.specs.Routine.{routine_named};
+ghost use Rattle.ax_source_run.specs.SourcePointers.{is_element};
+ghost use Rattle.ax_source_run.specs.SourceInstructions.{access_of, is_seq_cst, lock_free_at, result_in, routine_access, routine_result, store_may_wait, traps, width_of};
+ghost use Rattle.ax_words.specs.Routine.{routine_named};
 ghost use Rattle.ax_source.specs.Accesses.{access_in};
 ghost use Rattle.ax_source.specs.Instructions.{any_outside};
 ghost use Rattle.ax_source.specs.ProcessorState.{state_of};
@@ -16,10 +16,10 @@ use crate::access::{Access, Operation, Reply};
 use crate::calls::Kind;
 use crate::processor::Processor;
 use ax_cells::{Object, Pointer, Value};
-use ax_ir::{Arg, Inst, Name, Ty};
-use ax_ops::{Op, Order, RoutineName, Width};
+use ax_module::{Arg, Inst, Name, Ty};
 use ax_target::{Target, Way, decide};
 use ax_values::{bits, compare, compute, convert};
+use ax_words::{Op, Order, RoutineName, Width};
 
 /// The width of a type's atomic accesses.
 fn width_of(ty: Ty) -> Width
@@ -65,7 +65,7 @@ impl<'a> Processor<'a> {
     }
 
     /// Whether an instruction traps: it is `unreachable`, or an index lies past the elements.
-    #[tactic(auto, using(crate::proofs::Inside::arguments), unfolding(ax_layout::specs::SourceInstructions::is_unreachable, ax_layout::specs::SourceInstructions::pointers_of, crate::specs::Runnable::is_narrow_inst))]
+    #[tactic(auto, using(crate::proofs::Inside::arguments), unfolding(ax_source_run::specs::SourceInstructions::is_unreachable, ax_source_run::specs::SourceInstructions::pointers_of, crate::specs::Runnable::is_narrow_inst))]
     pub(crate) fn traps(&self, inst: &Inst) -> bool
         requires { IsTrue (is_narrow_inst inst.now) }
         ensures { result ≡ traps self.now.program (state_of self.now) inst.now }
@@ -84,7 +84,7 @@ impl<'a> Processor<'a> {
     }
 
     /// The operation on an object that an instruction is.
-    #[tactic(auto, unfolding(ax_layout::specs::SourceInstructions::access_of, crate::specs::Runnable::is_narrow_inst))]
+    #[tactic(auto, unfolding(ax_source_run::specs::SourceInstructions::access_of, crate::specs::Runnable::is_narrow_inst))]
     pub(crate) fn access(&self, inst: &Inst) -> Option<Access>
         requires { IsTrue (is_narrow_inst inst.now) }
         ensures { option_map access_in result ≡ access_of self.now.program (state_of self.now) inst.now }
@@ -168,7 +168,7 @@ impl<'a> Processor<'a> {
     }
 
     /// The result of instruction `k` where it is no operation on an object.
-    #[tactic(auto, unfolding(ax_layout::specs::SourceInstructions::result_in, crate::specs::Runnable::is_narrow_inst))]
+    #[tactic(auto, unfolding(ax_source_run::specs::SourceInstructions::result_in, crate::specs::Runnable::is_narrow_inst))]
     pub(crate) fn result(&self, k: usize, inst: &Inst) -> Option<Value>
         requires narrow { IsTrue (is_narrow_inst inst.now) }
         requires inside { traps self.now.program (state_of self.now) inst.now ≡ false }

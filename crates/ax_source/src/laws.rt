@@ -1,6 +1,6 @@
 //! Accepted modules can run.
 
-ghost use Rattle.ax_layout.specs.SourceState.{SourceProgram};
+ghost use Rattle.ax_source_run.specs.SourceState.{SourceProgram};
 ghost use Rattle.ax_check.specs.Accepted.{IsAccepted};
 ghost use Rattle.ax_source.specs.Runnable.{IsRunnable};
 

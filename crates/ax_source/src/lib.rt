@@ -13,9 +13,6 @@ mod operands;
 mod phis;
 mod processor;
 
-pub use ax_ops::{Items, SourceEvent, SourceStatus};
+pub use ax_words::{Items, SourceEvent, SourceStatus};
 pub use laws::accepted_modules_are_runnable;
 pub use machine::Machine;
-
-#[cfg(test)]
-mod worked_tests;

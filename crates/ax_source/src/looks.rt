@@ -1,8 +1,8 @@
 //! Looks and misses of weak compare-exchanges.
 
 ghost use Rattle.std.specs.Prelude.{◌≡◌, IsTrue};
-ghost use Rattle.ax_layout.specs.SourceEvent.{expected_by, next_inst, number_at, seen_by};
-ghost use Rattle.ax_layout.specs.SourcePointers.{is_element};
+ghost use Rattle.ax_source_run.specs.SourceEvent.{expected_by, next_inst, number_at, seen_by};
+ghost use Rattle.ax_source_run.specs.SourcePointers.{is_element};
 ghost use Rattle.ax_source.specs.MachineSteps.{look_of, miss_of};
 ghost use Rattle.ax_source.specs.ProcessorState.{Kept, state_of};
 ghost use Rattle.ax_source.specs.Runnable.{is_narrow_inst};
@@ -11,7 +11,7 @@ ghost use Rattle.ax_cells.specs.Values.{pointer_of};
 
 use crate::processor::Processor;
 use ax_cells::{Arrays, Object, Pointer, Value};
-use ax_ir::Inst;
+use ax_module::Inst;
 
 impl<'a> Processor<'a> {
     /// The number of an element that is native.
@@ -32,7 +32,7 @@ impl<'a> Processor<'a> {
     }
 
     /// What a weak compare-exchange of a native object sees.
-    #[tactic(auto, unfolding(ax_layout::specs::SourceEvent::seen_by, crate::specs::Runnable::is_narrow_inst))]
+    #[tactic(auto, unfolding(ax_source_run::specs::SourceEvent::seen_by, crate::specs::Runnable::is_narrow_inst))]
     fn seen_by(&self, globals: &Arrays, inst: &Inst) -> Option<u128>
         requires { IsTrue (is_narrow_inst inst.now) }
         ensures { result ≡ seen_by self.now.program inst.now (state_of self.now) (cells_of globals.now) }
@@ -50,7 +50,7 @@ impl<'a> Processor<'a> {
     }
 
     /// The number that a weak compare-exchange expects.
-    #[tactic(auto, unfolding(ax_layout::specs::SourceEvent::expected_by, crate::specs::Runnable::is_narrow_inst))]
+    #[tactic(auto, unfolding(ax_source_run::specs::SourceEvent::expected_by, crate::specs::Runnable::is_narrow_inst))]
     fn expected_by(&self, inst: &Inst) -> Option<u128>
         requires { IsTrue (is_narrow_inst inst.now) }
         ensures { result ≡ expected_by self.now.program inst.now (state_of self.now) }

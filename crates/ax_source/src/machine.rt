@@ -1,8 +1,8 @@
 //! The source machine: one source event at a time, without taking memory.
 
 ghost use Rattle.std.specs.Prelude.{◌≡◌, ◌+◌, ◌++◌, ◌<◌, ◌≤◌, ◌^◌, length, map, vec_len, IfOk, IfSome};
-ghost use Rattle.ax_layout.specs.SourceEvent.{outputs_of, source_event};
-ghost use Rattle.ax_layout.specs.SourceRun.{source_start};
+ghost use Rattle.ax_source_run.specs.SourceEvent.{outputs_of, source_event};
+ghost use Rattle.ax_source_run.specs.SourceRun.{source_start};
 ghost use Rattle.ax_source.specs.MachineSteps.{HasElement, Stays, named_by, state_of};
 ghost use Rattle.std.specs.Vec.{vec_capacity};
 ghost use Rattle.ax_source.specs.Beginnings.{begun, room_for};
@@ -12,9 +12,9 @@ use crate::laws::accepted_modules_are_runnable;
 use crate::processor::Processor;
 use ax_cells::{Arrays, initial_arrays};
 use ax_check::Accepted;
-use ax_ops::{SourceEvent, SourceStatus};
 use ax_target::buffered;
 use ax_typed::numbers_are_typed;
+use ax_words::{SourceEvent, SourceStatus};
 use std::alloc::{AllocError, Global};
 use std::marker::Model;
 

@@ -1,9 +1,9 @@
 //! Operands of instructions, and the pointers among them.
 
 ghost use Rattle.std.specs.Prelude.{◌≡◌, ◌≤◌, IsTrue};
-ghost use Rattle.ax_layout.specs.SourceInstructions.{is_inside};
-ghost use Rattle.ax_layout.specs.SourcePointers.{base_of, elements_of, pointer_of as pointer_to, scaled, stepped};
-ghost use Rattle.ax_layout.specs.SourceValues.{operand_of, part_in, type_bits};
+ghost use Rattle.ax_source_run.specs.SourceInstructions.{is_inside};
+ghost use Rattle.ax_source_run.specs.SourcePointers.{base_of, elements_of, pointer_of as pointer_to, scaled, stepped};
+ghost use Rattle.ax_source_run.specs.SourceValues.{operand_of, part_in, type_bits};
 ghost use Rattle.ax_source.specs.Runnable.{is_narrow_addr};
 ghost use Rattle.ax_cells.specs.Narrow.{is_narrow};
 ghost use Rattle.ax_source.specs.ProcessorState.{IsSound, state_of};
@@ -11,7 +11,7 @@ ghost use Rattle.ax_cells.specs.Values.{object_of, pointer_of};
 
 use crate::processor::Processor;
 use ax_cells::{Object, Pointer, Value, constant};
-use ax_ir::{Addr, Base, Operand, Ty};
+use ax_module::{Addr, Base, Operand, Ty};
 use ax_values::{bits, index};
 
 /// An index of bytes as one of elements, which have so many bytes.

@@ -2,8 +2,8 @@
 
 ghost use Rattle.std.specs.Prelude.{◌≡◌, ◌≤◌, IsTrue};
 ghost use Rattle.std.specs.List.{list_all};
-ghost use Rattle.ax_layout.specs.SourceInstructions.{entered, incoming, phi_count};
-ghost use Rattle.ax_layout.specs.SourcePointers.{blocks_of};
+ghost use Rattle.ax_source_run.specs.SourceInstructions.{entered, incoming, phi_count};
+ghost use Rattle.ax_source_run.specs.SourcePointers.{blocks_of};
 ghost use Rattle.ax_source.specs.Phis.{phi_number_of, phi_numbers};
 ghost use Rattle.ax_source.specs.ProcessorState.{Kept, state_of};
 ghost use Rattle.ax_source.specs.Runnable.{is_narrow_inst};
@@ -11,7 +11,7 @@ ghost use Rattle.ax_cells.specs.Narrow.{is_narrow};
 
 use crate::processor::{Processor, insts_of_block};
 use arrayvec::ArrayVec;
-use ax_ir::{Inst, Operand, Ty};
+use ax_module::{Inst, Operand, Ty};
 
 impl<'a> Processor<'a> {
     /// The number that comes from the block in which it is: the first entry for it.
@@ -29,7 +29,7 @@ impl<'a> Processor<'a> {
     }
 
     /// The number that comes to a phi.
-    #[tactic(auto, unfolding(ax_layout::specs::SourceInstructions::is_phi, ax_layout::specs::SourceInstructions::phi_number, crate::specs::Runnable::is_narrow_inst))]
+    #[tactic(auto, unfolding(ax_source_run::specs::SourceInstructions::is_phi, ax_source_run::specs::SourceInstructions::phi_number, crate::specs::Runnable::is_narrow_inst))]
     fn phi_number(&self, inst: &Inst) -> Option<u128>
         requires { IsTrue (is_narrow_inst inst.now) }
         ensures { result ≡ phi_number_of self.now.block (state_of self.now).values inst.now }

@@ -1,11 +1,11 @@
 //! A processor of the source machine.
 
 ghost use Rattle.std.specs.Prelude.{◌≡◌, ◌<◌, ◌-◌, ◌++◌, ◌∷◌, [], drop, take, option_copied, slice_get, slice_index_or, Some, IsSome, IfSome, IfOk};
-ghost use Rattle.ax_ops.specs.declared.source.SourceStatus.TheVariants.{Ended, Trapped};
-ghost use Rattle.ax_layout.specs.SourceAccess.{element_set, gets, goes_on, newest, written_out};
-ghost use Rattle.ax_layout.specs.SourceEvent.{inst_at, next_inst, number_of_next};
-ghost use Rattle.ax_layout.specs.SourceInstructions.{entered, insts_of_block};
-ghost use Rattle.ax_layout.specs.SourcePointers.{blocks_of};
+ghost use Rattle.ax_words.specs.declared.source.SourceStatus.TheVariants.{Ended, Trapped};
+ghost use Rattle.ax_source_run.specs.SourceAccess.{element_set, gets, goes_on, newest, written_out};
+ghost use Rattle.ax_source_run.specs.SourceEvent.{inst_at, next_inst, number_of_next};
+ghost use Rattle.ax_source_run.specs.SourceInstructions.{entered, insts_of_block};
+ghost use Rattle.ax_source_run.specs.SourcePointers.{blocks_of};
 ghost use Rattle.ax_source.specs.Beginnings.{begun};
 ghost use Rattle.ax_source.specs.Runnable.{IsRunnable};
 ghost use Rattle.ax_cells.specs.Values.{value_of};
@@ -16,8 +16,8 @@ ghost use Rattle.ax_cells.specs.Memories.{starts_from};
 
 use ax_cells::{Arrays, Pending, Results, Value, Waiting, alloca_arrays, block_starts};
 use ax_check::Accepted;
-use ax_ir::{Block, Inst, Module, Ty};
-use ax_ops::SourceStatus;
+use ax_module::{Block, Inst, Module, Ty};
+use ax_words::SourceStatus;
 use std::alloc::{AllocError, Global};
 use std::marker::Model;
 
@@ -41,7 +41,7 @@ pub(crate) struct Processor<'a> {
 
 impl<'a> Model for Processor<'a> {
     ghost use Rattle.std.specs.Prelude.{◌≡◌};
-    ghost use Rattle.ax_layout.specs.SourcePointers.{blocks_of};
+    ghost use Rattle.ax_source_run.specs.SourcePointers.{blocks_of};
     ghost use Rattle.ax_source.specs.ProcessorState.{ProcessorState, IsSound};
     ghost use Rattle.ax_cells.specs.Memories.{starts_from};
 

@@ -427,6 +427,3 @@ fn low(n: u8, v: u128) -> u128
         _ => unreachable!(),
     }
 }
-
-#[cfg(test)]
-mod tests;

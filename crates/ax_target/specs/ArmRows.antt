@@ -1,19 +1,19 @@
 -- The rows of AArch64, without and with LSE (Arm Architecture Reference Manual, "Load-Acquire, Store-Release", "Large System Extensions").
 use Rattle.std.specs.Prelude.{if◌then◌else◌, List, [], ◌∷◌, Option, Some, None, option_map, option_to_list}
-use Rattle.ax_ops.specs.declared.order.Order.{Order}
-use Rattle.ax_ops.specs.declared.order.Order.TheVariants.{Acquire, Release, AcqRel, SeqCst}
-use Rattle.ax_ops.specs.declared.operation.RmwOp.{RmwOp}
-use Rattle.ax_ops.specs.declared.operation.RmwOp.TheVariants.{Xchg, Add, Sub, And, Nand, Or, Xor, Max, Min, UMax, UMin}
-use Rattle.ax_ops.specs.declared.width.Width.{Width}
-use Rattle.ax_ops.specs.declared.width.Width.TheVariants.{W128}
-use Rattle.ax_ops.specs.declared.mark.Op.{Op}
-use Rattle.ax_ops.specs.declared.mark.Op.TheVariants.{Load, Store, Cmpxchg, Rmw, Fence}
-use Rattle.ax_ops.specs.declared.mark.Mark.{Mark}
-use Rattle.ax_ops.specs.declared.mark.Mark.TheVariants.{Memory, Fence as Fencing}
-use Rattle.ax_ops.specs.declared.mark.MarkCode.{MarkCode}
-use Rattle.ax_ops.specs.declared.mark.MarkCode.TheVariants.{Ldr, Ldar, Str, Stlr, Ldxr, Ldaxr, Stxr, Stlxr, Ldxp, Ldaxp, Stxp, Stlxp, Swp, Swpa, Swpl, Swpal, Ldadd, Ldadda, Ldaddl, Ldaddal, Ldclr, Ldclra, Ldclrl, Ldclral, Ldset, Ldseta, Ldsetl, Ldsetal, Ldeor, Ldeora, Ldeorl, Ldeoral, Ldsmax, Ldsmaxa, Ldsmaxl, Ldsmaxal, Ldsmin, Ldsmina, Ldsminl, Ldsminal, Ldumax, Ldumaxa, Ldumaxl, Ldumaxal, Ldumin, Ldumina, Lduminl, Lduminal, Cas, Casa, Casl, Casal, Casp, Caspa, Caspl, Caspal}
-use Rattle.ax_ops.specs.declared.mark.FenceCode.TheVariants.{DmbIshld, DmbIsh}
-use Rattle.ax_ops.specs.Width.{bytes_of}
+use Rattle.ax_words.specs.declared.order.Order.{Order}
+use Rattle.ax_words.specs.declared.order.Order.TheVariants.{Acquire, Release, AcqRel, SeqCst}
+use Rattle.ax_words.specs.declared.operation.RmwOp.{RmwOp}
+use Rattle.ax_words.specs.declared.operation.RmwOp.TheVariants.{Xchg, Add, Sub, And, Nand, Or, Xor, Max, Min, UMax, UMin}
+use Rattle.ax_words.specs.declared.width.Width.{Width}
+use Rattle.ax_words.specs.declared.width.Width.TheVariants.{W128}
+use Rattle.ax_words.specs.declared.mark.Op.{Op}
+use Rattle.ax_words.specs.declared.mark.Op.TheVariants.{Load, Store, Cmpxchg, Rmw, Fence}
+use Rattle.ax_words.specs.declared.mark.Mark.{Mark}
+use Rattle.ax_words.specs.declared.mark.Mark.TheVariants.{Memory, Fence as Fencing}
+use Rattle.ax_words.specs.declared.mark.MarkCode.{MarkCode}
+use Rattle.ax_words.specs.declared.mark.MarkCode.TheVariants.{Ldr, Ldar, Str, Stlr, Ldxr, Ldaxr, Stxr, Stlxr, Ldxp, Ldaxp, Stxp, Stlxp, Swp, Swpa, Swpl, Swpal, Ldadd, Ldadda, Ldaddl, Ldaddal, Ldclr, Ldclra, Ldclrl, Ldclral, Ldset, Ldseta, Ldsetl, Ldsetal, Ldeor, Ldeora, Ldeorl, Ldeoral, Ldsmax, Ldsmaxa, Ldsmaxl, Ldsmaxal, Ldsmin, Ldsmina, Ldsminl, Ldsminal, Ldumax, Ldumaxa, Ldumaxl, Ldumaxal, Ldumin, Ldumina, Lduminl, Lduminal, Cas, Casa, Casl, Casal, Casp, Caspa, Caspl, Caspal}
+use Rattle.ax_words.specs.declared.mark.FenceCode.TheVariants.{DmbIshld, DmbIsh}
+use Rattle.ax_words.specs.Width.{bytes_of}
 use Rattle.ax_target.specs.declared.endings.Codes.{Codes}
 use Rattle.ax_target.specs.Endings.{acquires, releases, endings, with_ending}
 

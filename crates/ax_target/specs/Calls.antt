@@ -1,12 +1,12 @@
 -- The rows of calls (GCC libatomic ABI).
 use Rattle.std.specs.Prelude.{ℕ, List, [], ◌∷◌, ◌++◌, map, codes}
-use Rattle.ax_ops.specs.declared.operation.RmwOp.TheVariants.{Xchg, Add, Sub, And, Nand, Or, Xor, Max, Min, UMax, UMin}
-use Rattle.ax_ops.specs.declared.width.Width.{Width}
-use Rattle.ax_ops.specs.declared.width.Width.TheVariants.{W8, W16, W32, W64, W128}
-use Rattle.ax_ops.specs.declared.mark.Op.{Op}
-use Rattle.ax_ops.specs.declared.mark.Op.TheVariants.{Load as Loading, Store as Storing, Cmpxchg, Rmw, Fence}
-use Rattle.ax_ops.specs.declared.routine.RoutineName.{RoutineName}
-use Rattle.ax_ops.specs.declared.routine.RoutineName.TheVariants.{Load1, Store1, Exchange1, CompareExchange1, FetchAdd1, FetchSub1, FetchAnd1, FetchOr1, FetchXor1, FetchNand1, Load2, Store2, Exchange2, CompareExchange2, FetchAdd2, FetchSub2, FetchAnd2, FetchOr2, FetchXor2, FetchNand2, Load4, Store4, Exchange4, CompareExchange4, FetchAdd4, FetchSub4, FetchAnd4, FetchOr4, FetchXor4, FetchNand4, Load8, Store8, Exchange8, CompareExchange8, FetchAdd8, FetchSub8, FetchAnd8, FetchOr8, FetchXor8, FetchNand8, Load16, Store16, Exchange16, CompareExchange16, FetchAdd16, FetchSub16, FetchAnd16, FetchOr16, FetchXor16, FetchNand16, Load, Store, Exchange, CompareExchange}
+use Rattle.ax_words.specs.declared.operation.RmwOp.TheVariants.{Xchg, Add, Sub, And, Nand, Or, Xor, Max, Min, UMax, UMin}
+use Rattle.ax_words.specs.declared.width.Width.{Width}
+use Rattle.ax_words.specs.declared.width.Width.TheVariants.{W8, W16, W32, W64, W128}
+use Rattle.ax_words.specs.declared.mark.Op.{Op}
+use Rattle.ax_words.specs.declared.mark.Op.TheVariants.{Load as Loading, Store as Storing, Cmpxchg, Rmw, Fence}
+use Rattle.ax_words.specs.declared.routine.RoutineName.{RoutineName}
+use Rattle.ax_words.specs.declared.routine.RoutineName.TheVariants.{Load1, Store1, Exchange1, CompareExchange1, FetchAdd1, FetchSub1, FetchAnd1, FetchOr1, FetchXor1, FetchNand1, Load2, Store2, Exchange2, CompareExchange2, FetchAdd2, FetchSub2, FetchAnd2, FetchOr2, FetchXor2, FetchNand2, Load4, Store4, Exchange4, CompareExchange4, FetchAdd4, FetchSub4, FetchAnd4, FetchOr4, FetchXor4, FetchNand4, Load8, Store8, Exchange8, CompareExchange8, FetchAdd8, FetchSub8, FetchAnd8, FetchOr8, FetchXor8, FetchNand8, Load16, Store16, Exchange16, CompareExchange16, FetchAdd16, FetchSub16, FetchAnd16, FetchOr16, FetchXor16, FetchNand16, Load, Store, Exchange, CompareExchange}
 use Rattle.ax_target.specs.declared.calls.SizedRoutines.{SizedRoutines}
 
 -- the ten routines of a size, in the order of the ABI

@@ -1,11 +1,11 @@
 -- Which way an operation is lowered: the decision table.
 use Rattle.std.specs.Prelude.{ℕ, Bool, true, false, ◌&&◌, ◌||◌, nat_eq, nat_lt, nat_le, is_some, if◌then◌else◌, List, [], ◌∷◌, find, option_map, unwrap_or}
 use Rattle.std.specs.List.{list_all, list_any}
-use Rattle.ax_ops.specs.declared.mark.Op.{Op}
-use Rattle.ax_ops.specs.declared.mark.Op.TheVariants.{Load, Store, Cmpxchg, Rmw, Fence}
-use Rattle.ax_ops.specs.declared.operation.RmwOp.TheVariants.{Xchg, Add, Sub, And, Nand, Or, Xor, Max, Min, UMax, UMin}
-use Rattle.ax_ops.specs.declared.width.Width.{Width}
-use Rattle.ax_ops.specs.Width.{bytes_of}
+use Rattle.ax_words.specs.declared.mark.Op.{Op}
+use Rattle.ax_words.specs.declared.mark.Op.TheVariants.{Load, Store, Cmpxchg, Rmw, Fence}
+use Rattle.ax_words.specs.declared.operation.RmwOp.TheVariants.{Xchg, Add, Sub, And, Nand, Or, Xor, Max, Min, UMax, UMin}
+use Rattle.ax_words.specs.declared.width.Width.{Width}
+use Rattle.ax_words.specs.Width.{bytes_of}
 use Rattle.ax_target.specs.declared.target.Target.{Target}
 use Rattle.ax_target.specs.declared.target.Target.TheVariants.{X86, Arm, Rv}
 use Rattle.ax_target.specs.declared.decision.Way.{Way}

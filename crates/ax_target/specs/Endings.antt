@@ -1,8 +1,8 @@
 -- Orders as they show in instructions.
 use Rattle.std.specs.Prelude.{Bool, true, false}
-use Rattle.ax_ops.specs.declared.order.Order.{Order}
-use Rattle.ax_ops.specs.declared.order.Order.TheVariants.{Unordered, Monotonic, Acquire, Release, AcqRel, SeqCst}
-use Rattle.ax_ops.specs.declared.mark.MarkCode.{MarkCode}
+use Rattle.ax_words.specs.declared.order.Order.{Order}
+use Rattle.ax_words.specs.declared.order.Order.TheVariants.{Unordered, Monotonic, Acquire, Release, AcqRel, SeqCst}
+use Rattle.ax_words.specs.declared.mark.MarkCode.{MarkCode}
 use Rattle.ax_target.specs.declared.endings.Codes.{Codes}
 
 -- "Acq" of the mapping table

@@ -1,17 +1,17 @@
 -- The instructions of an operation: its row of the mapping table.
 use Rattle.std.specs.Prelude.{ℕ, Bool, true, false, not, ◌&&◌, ◌||◌, nat_lt, List, [], ◌∷◌, length, map}
 use Rattle.std.specs.List.{list_all}
-use Rattle.ax_ops.specs.declared.order.Order.{Order}
-use Rattle.ax_ops.specs.declared.order.Access.{Access}
-use Rattle.ax_ops.specs.declared.order.Access.TheVariants.{Load as Loads, Store as Stores, Rmw as Rmws, CmpSuccess, Fence as Fences}
-use Rattle.ax_ops.specs.declared.width.Width.{Width}
-use Rattle.ax_ops.specs.declared.width.Width.TheVariants.{W8, W16, W32, W64, W128}
-use Rattle.ax_ops.specs.declared.mark.Op.{Op}
-use Rattle.ax_ops.specs.declared.mark.Op.TheVariants.{Load, Store, Cmpxchg, Rmw, Fence}
-use Rattle.ax_ops.specs.declared.mark.Mark.{Mark}
-use Rattle.ax_ops.specs.declared.mark.Mark.TheVariants.{Call}
-use Rattle.ax_ops.specs.Orders.{rising, is_legal}
-use Rattle.ax_ops.specs.Width.{bytes_of}
+use Rattle.ax_words.specs.declared.order.Order.{Order}
+use Rattle.ax_words.specs.declared.order.Access.{Access}
+use Rattle.ax_words.specs.declared.order.Access.TheVariants.{Load as Loads, Store as Stores, Rmw as Rmws, CmpSuccess, Fence as Fences}
+use Rattle.ax_words.specs.declared.width.Width.{Width}
+use Rattle.ax_words.specs.declared.width.Width.TheVariants.{W8, W16, W32, W64, W128}
+use Rattle.ax_words.specs.declared.mark.Op.{Op}
+use Rattle.ax_words.specs.declared.mark.Op.TheVariants.{Load, Store, Cmpxchg, Rmw, Fence}
+use Rattle.ax_words.specs.declared.mark.Mark.{Mark}
+use Rattle.ax_words.specs.declared.mark.Mark.TheVariants.{Call}
+use Rattle.ax_words.specs.Orders.{rising, is_legal}
+use Rattle.ax_words.specs.Width.{bytes_of}
 use Rattle.ax_target.specs.declared.target.Target.{Target}
 use Rattle.ax_target.specs.declared.target.Target.TheVariants.{X86, Arm, Rv}
 use Rattle.ax_target.specs.declared.decision.Way.{Way}

@@ -1,16 +1,16 @@
 -- The rows of RV64 (RISC-V Unprivileged ISA, "Code porting and mapping guidelines", table A.6).
 use Rattle.std.specs.Prelude.{ℕ, List, [], ◌∷◌, Option, Some, None, option_map, option_to_list}
-use Rattle.ax_ops.specs.declared.order.Order.{Order}
-use Rattle.ax_ops.specs.declared.order.Order.TheVariants.{Unordered, Monotonic, Acquire, Release, AcqRel, SeqCst}
-use Rattle.ax_ops.specs.declared.operation.RmwOp.{RmwOp}
-use Rattle.ax_ops.specs.declared.operation.RmwOp.TheVariants.{Xchg, Add, Sub, And, Nand, Or, Xor, Max, Min, UMax, UMin}
-use Rattle.ax_ops.specs.declared.mark.Op.{Op}
-use Rattle.ax_ops.specs.declared.mark.Op.TheVariants.{Load, Store, Cmpxchg, Rmw, Fence}
-use Rattle.ax_ops.specs.declared.mark.Mark.{Mark}
-use Rattle.ax_ops.specs.declared.mark.Mark.TheVariants.{Memory, Fence as Fencing}
-use Rattle.ax_ops.specs.declared.mark.MarkCode.{MarkCode}
-use Rattle.ax_ops.specs.declared.mark.MarkCode.TheVariants.{RvLoad, RvStore, Lr, LrAq, LrAqrl, Sc, ScRl, Amoswap, AmoswapAq, AmoswapRl, AmoswapAqrl, Amoadd, AmoaddAq, AmoaddRl, AmoaddAqrl, Amoand, AmoandAq, AmoandRl, AmoandAqrl, Amoor, AmoorAq, AmoorRl, AmoorAqrl, Amoxor, AmoxorAq, AmoxorRl, AmoxorAqrl, Amomax, AmomaxAq, AmomaxRl, AmomaxAqrl, Amomin, AmominAq, AmominRl, AmominAqrl, Amomaxu, AmomaxuAq, AmomaxuRl, AmomaxuAqrl, Amominu, AmominuAq, AmominuRl, AmominuAqrl}
-use Rattle.ax_ops.specs.declared.mark.FenceCode.TheVariants.{FenceRRw, FenceRwW, FenceRwRw, FenceTso}
+use Rattle.ax_words.specs.declared.order.Order.{Order}
+use Rattle.ax_words.specs.declared.order.Order.TheVariants.{Unordered, Monotonic, Acquire, Release, AcqRel, SeqCst}
+use Rattle.ax_words.specs.declared.operation.RmwOp.{RmwOp}
+use Rattle.ax_words.specs.declared.operation.RmwOp.TheVariants.{Xchg, Add, Sub, And, Nand, Or, Xor, Max, Min, UMax, UMin}
+use Rattle.ax_words.specs.declared.mark.Op.{Op}
+use Rattle.ax_words.specs.declared.mark.Op.TheVariants.{Load, Store, Cmpxchg, Rmw, Fence}
+use Rattle.ax_words.specs.declared.mark.Mark.{Mark}
+use Rattle.ax_words.specs.declared.mark.Mark.TheVariants.{Memory, Fence as Fencing}
+use Rattle.ax_words.specs.declared.mark.MarkCode.{MarkCode}
+use Rattle.ax_words.specs.declared.mark.MarkCode.TheVariants.{RvLoad, RvStore, Lr, LrAq, LrAqrl, Sc, ScRl, Amoswap, AmoswapAq, AmoswapRl, AmoswapAqrl, Amoadd, AmoaddAq, AmoaddRl, AmoaddAqrl, Amoand, AmoandAq, AmoandRl, AmoandAqrl, Amoor, AmoorAq, AmoorRl, AmoorAqrl, Amoxor, AmoxorAq, AmoxorRl, AmoxorAqrl, Amomax, AmomaxAq, AmomaxRl, AmomaxAqrl, Amomin, AmominAq, AmominRl, AmominAqrl, Amomaxu, AmomaxuAq, AmomaxuRl, AmomaxuAqrl, Amominu, AmominuAq, AmominuRl, AmominuAqrl}
+use Rattle.ax_words.specs.declared.mark.FenceCode.TheVariants.{FenceRRw, FenceRwW, FenceRwRw, FenceTso}
 use Rattle.ax_target.specs.declared.endings.Codes.{Codes}
 use Rattle.ax_target.specs.Endings.{endings, with_ending}
 

@@ -21,7 +21,7 @@ accepted_targets = X86 false ∷ X86 true ∷ Arm false ∷ Arm true ∷ Rv fals
 abbrev pub target_named : List ℕ → Option Target
 target_named word = find (λ target. pointwise nat_eq word (name_of target)) accepted_targets
 
--- the greatest size of an atomic object, in bytes, that the target's own instructions reach
+-- the greatest size of an atomic object, in bytes, that the target's own instructions reach; the tables look at neither extension of RV64 yet, and no target with one is accepted
 abbrev pub greatest_native : Target → ℕ
 greatest_native (X86 false) = 8
 greatest_native (X86 true) = 16

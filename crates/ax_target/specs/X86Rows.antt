@@ -1,18 +1,18 @@
 -- The rows of x86-64 (Intel SDM volume 3, "Memory Ordering").
 use Rattle.std.specs.Prelude.{ℕ, List, [], ◌∷◌}
-use Rattle.ax_ops.specs.declared.order.Order.{Order}
-use Rattle.ax_ops.specs.declared.order.Order.TheVariants.{SeqCst}
-use Rattle.ax_ops.specs.declared.operation.RmwOp.TheVariants.{Xchg as Exchange, Add, Sub}
-use Rattle.ax_ops.specs.declared.width.Width.{Width}
-use Rattle.ax_ops.specs.declared.width.Width.TheVariants.{W128}
-use Rattle.ax_ops.specs.declared.mark.Op.{Op}
-use Rattle.ax_ops.specs.declared.mark.Op.TheVariants.{Load, Store, Cmpxchg, Rmw, Fence}
-use Rattle.ax_ops.specs.declared.mark.Mark.{Mark}
-use Rattle.ax_ops.specs.declared.mark.Mark.TheVariants.{Memory, Fence as Fencing}
-use Rattle.ax_ops.specs.declared.mark.MarkCode.{MarkCode}
-use Rattle.ax_ops.specs.declared.mark.MarkCode.TheVariants.{X86Load, X86Store, Xchg, LockXadd, LockCmpxchg, LockCmpxchg16b}
-use Rattle.ax_ops.specs.declared.mark.FenceCode.TheVariants.{Mfence}
-use Rattle.ax_ops.specs.Width.{bytes_of}
+use Rattle.ax_words.specs.declared.order.Order.{Order}
+use Rattle.ax_words.specs.declared.order.Order.TheVariants.{SeqCst}
+use Rattle.ax_words.specs.declared.operation.RmwOp.TheVariants.{Xchg as Exchange, Add, Sub}
+use Rattle.ax_words.specs.declared.width.Width.{Width}
+use Rattle.ax_words.specs.declared.width.Width.TheVariants.{W128}
+use Rattle.ax_words.specs.declared.mark.Op.{Op}
+use Rattle.ax_words.specs.declared.mark.Op.TheVariants.{Load, Store, Cmpxchg, Rmw, Fence}
+use Rattle.ax_words.specs.declared.mark.Mark.{Mark}
+use Rattle.ax_words.specs.declared.mark.Mark.TheVariants.{Memory, Fence as Fencing}
+use Rattle.ax_words.specs.declared.mark.MarkCode.{MarkCode}
+use Rattle.ax_words.specs.declared.mark.MarkCode.TheVariants.{X86Load, X86Store, Xchg, LockXadd, LockCmpxchg, LockCmpxchg16b}
+use Rattle.ax_words.specs.declared.mark.FenceCode.TheVariants.{Mfence}
+use Rattle.ax_words.specs.Width.{bytes_of}
 
 abbrev pub x86_fence : Order → List Mark
 x86_fence SeqCst = Fencing Mfence ∷ []

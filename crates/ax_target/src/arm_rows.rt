@@ -16,8 +16,8 @@ ghost use Rattle.ax_target.specs.ArmRows.{
 
 use crate::endings::{Codes, access, acquires, releases, row_from};
 use arrayvec::ArrayVec;
-use ax_ops::MarkCode::*;
-use ax_ops::{FenceCode, Mark, MarkCode, Op, Order, RmwOp, Width};
+use ax_words::MarkCode::*;
+use ax_words::{FenceCode, Mark, MarkCode, Op, Order, RmwOp, Width};
 
 /// Loads, stores and fences, which both targets have alike.
 pub(crate) fn inline(op: Op, order: Order, width: Width) -> ArrayVec<Mark, 6>

@@ -5,8 +5,8 @@ ghost use Rattle.ax_target.specs.Calls.{generic_calls, routines_of as sized_rout
 
 use crate::endings::row_from;
 use arrayvec::ArrayVec;
-use ax_ops::RoutineName::*;
-use ax_ops::{Mark, Op, RmwOp, RoutineName, Width};
+use ax_words::RoutineName::*;
+use ax_words::{Mark, Op, RmwOp, RoutineName, Width};
 
 /// The routines of one size.
 #[derive(Clone, Copy)]

@@ -1,16 +1,16 @@
 //! Which way an operation is lowered.
 
 ghost use Rattle.std.specs.Prelude.{◌≡◌, ◌≢◌, ◌≤◌, ◌<◌, ◌↔◌, ◌⊎◌, ℕ, true, false, IsTrue};
-ghost use Rattle.ax_ops.specs.Width.{bytes_of};
+ghost use Rattle.ax_words.specs.Width.{bytes_of};
 ghost use Rattle.ax_target.specs.Targets.{greatest_native, has_pairs};
 ghost use Rattle.ax_target.specs.Decisions.{can_be, decided, is_whole, native_way, has_compare_loops, is_rv64};
 
 use crate::table::max_native;
 use crate::target::Target;
-use ax_ops::{Op, RmwOp, Width};
+use ax_words::{Op, RmwOp, Width};
 
 /// How an operation is lowered.
-#[derive(Clone, Copy, Debug, PartialEq, Eq)]
+#[derive(Clone, Copy)]
 pub enum Way {
     /// By instructions without a loop.
     Inline,
@@ -38,7 +38,7 @@ pub fn decide(t: Target, op: Op, width: Width, align: u64) -> Way
     ensures compares { result ≡ Way.CasLoop → IsTrue (has_compare_loops t) }
 {
     let bytes = width.bytes();
-    if op == Op::Fence {
+    if matches!(op, Op::Fence) {
         Way::Inline
     } else if align < bytes as u64 {
         Way::Generic

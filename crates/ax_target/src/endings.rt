@@ -1,11 +1,11 @@
 //! Orders as they show in instructions.
 
 ghost use Rattle.std.specs.Prelude.{◌≡◌, ◌≤◌, length};
-ghost use Rattle.ax_ops.specs.Width.{bytes_of};
+ghost use Rattle.ax_words.specs.Width.{bytes_of};
 ghost use Rattle.ax_target.specs.Endings.{acquires as acquires_of, endings, releases as releases_of, with_ending};
 
 use arrayvec::ArrayVec;
-use ax_ops::{Mark, MarkCode, Order, Width};
+use ax_words::{Mark, MarkCode, Order, Width};
 
 /// The codes of an instruction whose name ends in its order.
 #[derive(Clone, Copy)]

@@ -12,13 +12,10 @@ pub mod table;
 pub mod target;
 mod x86_rows;
 
-pub use ax_ops::{Mark, Op};
+pub use ax_words::{Mark, Op};
 pub use decision::{Way, decide};
 pub use rows::row;
 pub use table::{
     ArmLse, ArmPlain, RvPlain, TargetTable, X86Cx16, X86Plain, buffered, max_native, pairs,
 };
 pub use target::{Target, named};
-
-#[cfg(test)]
-mod tests;

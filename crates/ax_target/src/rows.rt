@@ -1,7 +1,7 @@
 //! The instructions of an operation: its row of the mapping table.
 
 ghost use Rattle.std.specs.Prelude.{◌≡◌, ◌≤◌, IsTrue, length, map};
-ghost use Rattle.ax_ops.specs.Routine.{name_of};
+ghost use Rattle.ax_words.specs.Routine.{name_of};
 ghost use Rattle.ax_target.specs.Calls.{listed, routines_of, sized_names};
 ghost use Rattle.ax_target.specs.Rows.{has_rows, row_of};
 
@@ -9,7 +9,7 @@ use crate::decision::Way;
 use crate::target::Target;
 use crate::{arm_rows, calls, rv_rows, x86_rows};
 use arrayvec::ArrayVec;
-use ax_ops::{Mark, Op, Order, Width};
+use ax_words::{Mark, Op, Order, Width};
 
 /// The memory, fence and call instructions of an operation that is lowered some way, in order, as
 /// the mapping table has them. The order is one that the operation may have; that of a

@@ -1,13 +1,13 @@
 //! The rows of RV64.
 
 ghost use Rattle.std.specs.Prelude.{◌≡◌};
-ghost use Rattle.ax_ops.specs.Width.{bytes_of};
+ghost use Rattle.ax_words.specs.Width.{bytes_of};
 ghost use Rattle.ax_target.specs.RvRows.{amo_codes as amo_codes_of, rv_fence, rv_inline, rv_load, rv_pair, rv_rmw, rv_store};
 
 use crate::endings::{Codes, access, releases, row_from};
 use arrayvec::ArrayVec;
-use ax_ops::MarkCode::*;
-use ax_ops::{FenceCode, Mark, Op, Order, RmwOp, Width};
+use ax_words::MarkCode::*;
+use ax_words::{FenceCode, Mark, Op, Order, RmwOp, Width};
 
 const READ_BEFORE_ALL: Mark = Mark::Fence(FenceCode::FenceRRw);
 

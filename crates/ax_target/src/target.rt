@@ -4,7 +4,7 @@ ghost use Rattle.std.specs.Prelude.{◌≡◌, IfSome, Some, Contains};
 ghost use Rattle.ax_target.specs.Targets.{accepted_targets, name_of, target_named};
 
 /// A processor that code is made for, with the extensions that atomics use.
-#[derive(Clone, Copy, Debug, PartialEq, Eq)]
+#[derive(Clone, Copy)]
 pub enum Target {
     /// x86-64; `cx16` is the instruction `cmpxchg16b`.
     X86 { cx16: bool },

@@ -5,8 +5,8 @@ ghost use Rattle.ax_target.specs.X86Rows.{x86_fence, x86_inline, x86_loop};
 
 use crate::endings::{access, row_from};
 use arrayvec::ArrayVec;
-use ax_ops::MarkCode::{LockCmpxchg, LockCmpxchg16b, LockXadd, X86Load, X86Store, Xchg};
-use ax_ops::{FenceCode, Mark, Op, Order, RmwOp, Width};
+use ax_words::MarkCode::{LockCmpxchg, LockCmpxchg16b, LockXadd, X86Load, X86Store, Xchg};
+use ax_words::{FenceCode, Mark, Op, Order, RmwOp, Width};
 
 pub(crate) fn inline(op: Op, order: Order, width: Width) -> ArrayVec<Mark, 6>
     ensures { result.items ≡ x86_inline op order width }
@@ -16,7 +16,7 @@ pub(crate) fn inline(op: Op, order: Order, width: Width) -> ArrayVec<Mark, 6>
         (Op::Load | Op::Cmpxchg, Width::W128) => LockCmpxchg16b,
         (_, Width::W128) => return ArrayVec::new(),
         (Op::Load, _) => X86Load,
-        (Op::Store, _) if order == Order::SeqCst => Xchg,
+        (Op::Store, _) if matches!(order, Order::SeqCst) => Xchg,
         (Op::Store, _) => X86Store,
         (Op::Cmpxchg, _) => LockCmpxchg,
         (Op::Rmw(RmwOp::Xchg), _) => Xchg,

@@ -3,12 +3,12 @@ use Rattle.std.proofs.Common.{◌≡◌, ℕ, ◌<◌, Bool, true, false, [], So
 use Rattle.std.specs.Prelude.{if◌then◌else◌, nat_eq}
 use Rattle.std.proofs.lemmas.List.Elements.{All-nil}
 use Rattle.std.proofs.lemmas.Nat.{pow_pos}
-use Rattle.ax_ir.specs.declared.module.Module.{Module}
-use Rattle.ax_ir.specs.declared.types.Ty.{Ty}
+use Rattle.ax_module.specs.declared.module.Module.{Module}
+use Rattle.ax_module.specs.declared.types.Ty.{Ty}
 use Rattle.ax_target.specs.Targets.{is_buffered}
-use Rattle.ax_layout.specs.SourceAccess.{Access, Deed, Done, Looks, ObjectOperation, Reads, Writes, Updates, Compares, Reply, Silent, Found, FoundEqual, Into, EqualOrInto, accessed, acts_on, is_expected, is_native_element, manner_of, manner_of_native, object_done, private_done, replied, shared_done, stored_by, waits, written_into, written_out}
-use Rattle.ax_layout.specs.SourceState.{Object, Shared, Private, SourceProcessor, SourceProgram, Number, Pair}
-use Rattle.ax_layout.specs.SourceValues.{type_bits}
+use Rattle.ax_source_run.specs.SourceAccess.{Access, Deed, Done, Looks, ObjectOperation, Reads, Writes, Updates, Compares, Reply, Silent, Found, FoundEqual, Into, EqualOrInto, accessed, acts_on, is_expected, is_native_element, manner_of, manner_of_native, object_done, private_done, replied, shared_done, stored_by, waits, written_into, written_out}
+use Rattle.ax_source_run.specs.SourceState.{Object, Shared, Private, SourceProcessor, SourceProgram, Number, Pair}
+use Rattle.ax_source_run.specs.SourceValues.{type_bits}
 use Rattle.ax_typed.specs.Typed.{AreTyped, IsAllocaOutcome, IsOf, IsResultOf, IsTypedProcessor, elem_of, outcome_in}
 use Rattle.ax_typed.proofs.Objects.{IsAtOther, IsOfIf, StoreIs, content_typed, drained_typed, gets_typed, goes_typed, into_typed, newest_typed, set_holds, waiting_typed, written_typed}
 use Rattle.ax_typed.proofs.Types.{ResultsFit}

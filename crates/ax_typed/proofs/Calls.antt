@@ -7,37 +7,37 @@ use Rattle.std.proofs.lemmas.Bool.{and_parts, or_parts, true≢false, false≢tr
 use Rattle.std.proofs.lemmas.List.Folds.{list_any-append}
 use Rattle.std.proofs.lemmas.Nat.{pow_pos}
 use Rattle.std.proofs.lemmas.Option.{none-some, same_Some}
-use Rattle.ax_ir.specs.declared.inst.Inst.{Inst}
-use Rattle.ax_ir.specs.declared.inst.Inst.TheVariants as inst
-use Rattle.ax_ir.specs.declared.module.Module.{Module}
-use Rattle.ax_ir.specs.declared.operand.Addr.{Addr}
-use Rattle.ax_ir.specs.declared.operand.Arg.{Arg}
-use Rattle.ax_ir.specs.declared.operand.Arg.TheVariants as arg
-use Rattle.ax_ir.specs.declared.types.Ty.{Ty}
-use Rattle.ax_ir.specs.declared.types.Ty.TheVariants.{I1, I8, I16, I32, I64, I128, Ptr}
-use Rattle.ax_ir.specs.Kinds.{is_phi}
-use Rattle.ax_ir.specs.Types.{type_bytes}
-use Rattle.ax_ops.specs.declared.operation.RmwOp.TheVariants as rmw
-use Rattle.ax_ops.specs.declared.routine.RoutineName.{RoutineName}
-use Rattle.ax_ops.specs.Routine as routines
-use Rattle.ax_layout.specs.SourceAccess.{Access, ObjectOperation, Reads, Writes, Updates, Compares, Reply, Silent, Found, Into, EqualOrInto, accessed}
-use Rattle.ax_layout.specs.SourceCalls.{RoutineKind, SizedLoad, SizedStore, SizedUpdate, SizedCompare, GenericLoad, GenericStore, GenericExchange, GenericCompare, IsLockFree, call, call_of, content_at, content_of, kind_of, number_at, number_of_arg, pointer_at, pointer_of_arg}
-use Rattle.ax_layout.specs.SourceEvent.{number_of_next}
-use Rattle.ax_layout.specs.SourceInstructions.{done_by, lock_free_at, lock_free_result, pointers_of, pointers_of_arg, routine_access, routine_result, traps}
-use Rattle.ax_layout.specs.SourcePointers.{pointer_of}
-use Rattle.ax_layout.specs.SourceState.{Object, Shared, Private, Pointer, SourceProcessor, SourceProgram, Number}
-use Rattle.ax_layout.specs.SourceValues.{number_of_flag, operand_of, type_bits}
+use Rattle.ax_module.specs.declared.inst.Inst.{Inst}
+use Rattle.ax_module.specs.declared.inst.Inst.TheVariants as inst
+use Rattle.ax_module.specs.declared.module.Module.{Module}
+use Rattle.ax_module.specs.declared.operand.Addr.{Addr}
+use Rattle.ax_module.specs.declared.operand.Arg.{Arg}
+use Rattle.ax_module.specs.declared.operand.Arg.TheVariants as arg
+use Rattle.ax_module.specs.declared.types.Ty.{Ty}
+use Rattle.ax_module.specs.declared.types.Ty.TheVariants.{I1, I8, I16, I32, I64, I128, Ptr}
+use Rattle.ax_module.specs.Kinds.{is_phi}
+use Rattle.ax_module.specs.Types.{type_bytes}
+use Rattle.ax_words.specs.declared.operation.RmwOp.TheVariants as rmw
+use Rattle.ax_words.specs.declared.routine.RoutineName.{RoutineName}
+use Rattle.ax_words.specs.Routine as routines
+use Rattle.ax_source_run.specs.SourceAccess.{Access, ObjectOperation, Reads, Writes, Updates, Compares, Reply, Silent, Found, Into, EqualOrInto, accessed}
+use Rattle.ax_source_run.specs.SourceCalls.{RoutineKind, SizedLoad, SizedStore, SizedUpdate, SizedCompare, GenericLoad, GenericStore, GenericExchange, GenericCompare, IsLockFree, call, call_of, content_at, content_of, kind_of, number_at, number_of_arg, pointer_at, pointer_of_arg}
+use Rattle.ax_source_run.specs.SourceEvent.{number_of_next}
+use Rattle.ax_source_run.specs.SourceInstructions.{done_by, lock_free_at, lock_free_result, pointers_of, pointers_of_arg, routine_access, routine_result, traps}
+use Rattle.ax_source_run.specs.SourcePointers.{pointer_of}
+use Rattle.ax_source_run.specs.SourceState.{Object, Shared, Private, Pointer, SourceProcessor, SourceProgram, Number}
+use Rattle.ax_source_run.specs.SourceValues.{number_of_flag, operand_of, type_bits}
 use Rattle.ax_rules.specs.declared.facts.Outcome.{Outcome}
 use Rattle.ax_rules.specs.declared.facts.Outcome.TheVariants as outcome
 use Rattle.ax_rules.specs.declared.facts.Scope.{Scope}
 use Rattle.ax_rules.specs.Facts.{call_outcome, extent_of, origin_of, outcome_of, scope_of}
 use Rattle.ax_rules.specs.Kind.{is_other}
-use Rattle.ax_rules.specs.Mixed.{is_element_of, is_mistyped, is_mixed_call, is_mixed_inst, is_mixed_size, is_sized, size_by, size_of}
+use Rattle.ax_access_rules.specs.Mixed.{is_element_of, is_mistyped, is_mixed_call, is_mixed_inst, is_mixed_size, is_sized, size_by, size_of}
 use Rattle.ax_rules.specs.Parts.{arg_operands, arg_types, operands_of, result_types, same_type, types_of}
 use Rattle.ax_rules.specs.Signatures.{arg_type, argument_types, called, called_if, fits_routine, is_some_routine, result_type, same_result, shape_of, shape_of_kind, sized_type, type_of_routine}
 use Rattle.ax_check.specs.Accepted.{IsAccepted}
 use Rattle.ax_check.specs.Laws.{AtInstructions, AtPoints, IsSound}
-use Rattle.ax_rules.specs.Tests.{has_width}
+use Rattle.ax_access_rules.specs.RulesAtPoints.{has_width}
 use Rattle.ax_typed.specs.Typed.{AreTyped, IsAllocaOutcome, IsOf, IsResultOf, IsTypedProcessor, elem_of, outcome_in}
 use Rattle.ax_typed.proofs.Accesses.{AccessIs, DeedIs, access_typed}
 use Rattle.ax_typed.proofs.Facts.{any_at, at_other, is_not_mixed, operands_are_typed, result_is, size_at, types_are_whole}

@@ -5,32 +5,32 @@ use Rattle.std.specs.List.{list_any}
 use Rattle.std.specs.Cmp.Lexicographic.{pointwise}
 use Rattle.std.proofs.lemmas.Bool.{and_parts, or_parts, true≢false, false≢true}
 use Rattle.std.proofs.lemmas.List.Elements.{All-nil}
-use Rattle.ax_ir.specs.declared.inst.Inst.{Inst}
-use Rattle.ax_ir.specs.declared.inst.Inst.TheVariants as inst
-use Rattle.ax_ir.specs.declared.module.Module.{Module}
-use Rattle.ax_ir.specs.declared.operand.Arg.{Arg}
-use Rattle.ax_ir.specs.declared.operand.Arg.TheVariants as arg
-use Rattle.ax_ir.specs.declared.operand.Base.{Base}
-use Rattle.ax_ir.specs.declared.operand.Base.TheVariants as base
-use Rattle.ax_ir.specs.declared.operand.Operand.TheVariants as operand
-use Rattle.ax_ir.specs.declared.types.Ty.{Ty}
-use Rattle.ax_ir.specs.declared.types.Ty.TheVariants.{I1, I64}
-use Rattle.ax_ir.specs.Kinds.{is_phi, is_terminator}
-use Rattle.ax_ops.specs.declared.source.SourceStatus.TheVariants.{Trapped}
-use Rattle.ax_layout.specs.SourceAccess.{Access, Reads, Writes, Updates, Compares, Silent, Found, FoundEqual}
-use Rattle.ax_layout.specs.SourceEvent.{number_of_next}
-use Rattle.ax_layout.specs.SourceInstructions.{access_of, changed, deed, deed_of, done_by, entered, fenced, is_out, is_seq_cst, out_number, pointers_of, result_in, store_may_wait, traps, written}
-use Rattle.ax_layout.specs.SourcePointers.{base_of, blocks_of, pointed, pointer_of, stepped}
-use Rattle.ax_layout.specs.SourceState.{SourceProcessor, SourceProgram, SourceValue, Number, Pair, PointsTo}
-use Rattle.ax_layout.specs.SourceValues.{computed, converted, holds, number_of_flag, operand_of, part_of, type_bits}
+use Rattle.ax_module.specs.declared.inst.Inst.{Inst}
+use Rattle.ax_module.specs.declared.inst.Inst.TheVariants as inst
+use Rattle.ax_module.specs.declared.module.Module.{Module}
+use Rattle.ax_module.specs.declared.operand.Arg.{Arg}
+use Rattle.ax_module.specs.declared.operand.Arg.TheVariants as arg
+use Rattle.ax_module.specs.declared.operand.Base.{Base}
+use Rattle.ax_module.specs.declared.operand.Base.TheVariants as base
+use Rattle.ax_module.specs.declared.operand.Operand.TheVariants as operand
+use Rattle.ax_module.specs.declared.types.Ty.{Ty}
+use Rattle.ax_module.specs.declared.types.Ty.TheVariants.{I1, I64}
+use Rattle.ax_module.specs.Kinds.{is_phi, is_terminator}
+use Rattle.ax_words.specs.declared.source.SourceStatus.TheVariants.{Trapped}
+use Rattle.ax_source_run.specs.SourceAccess.{Access, Reads, Writes, Updates, Compares, Silent, Found, FoundEqual}
+use Rattle.ax_source_run.specs.SourceEvent.{number_of_next}
+use Rattle.ax_source_run.specs.SourceInstructions.{access_of, changed, deed, deed_of, done_by, entered, fenced, is_out, is_seq_cst, out_number, pointers_of, result_in, store_may_wait, traps, written}
+use Rattle.ax_source_run.specs.SourcePointers.{base_of, blocks_of, pointed, pointer_of, stepped}
+use Rattle.ax_source_run.specs.SourceState.{SourceProcessor, SourceProgram, SourceValue, Number, Pair, PointsTo}
+use Rattle.ax_source_run.specs.SourceValues.{computed, converted, holds, number_of_flag, operand_of, part_of, type_bits}
 use Rattle.ax_rules.specs.declared.facts.Outcome.{Outcome}
 use Rattle.ax_rules.specs.declared.facts.Outcome.TheVariants as outcome
 use Rattle.ax_rules.specs.Facts.{outcome_at, outcome_of, part_type, scope_of}
 use Rattle.ax_rules.specs.Kind.{is_alloca_address, is_bad_gep, is_object}
-use Rattle.ax_rules.specs.Mixed.{is_mistyped, is_mixed_access, is_mixed_inst, is_pair_of}
+use Rattle.ax_access_rules.specs.Mixed.{is_mistyped, is_mixed_access, is_mixed_inst, is_pair_of}
 use Rattle.ax_rules.specs.Parts.{arg_operands, operands_of, same_type}
 use Rattle.ax_rules.specs.Signatures.{arg_type, called, fits_out, is_some_routine, same_result, user_call}
-use Rattle.ax_rules.specs.Tests.{has_width}
+use Rattle.ax_access_rules.specs.RulesAtPoints.{has_width}
 use Rattle.ax_check.specs.Accepted.{IsAccepted}
 use Rattle.ax_check.specs.Defined.{IsDefined, further_uses}
 use Rattle.ax_check.specs.Laws.{AtInstructions, AtPoints, IsSound}

@@ -4,23 +4,23 @@ use Rattle.std.specs.Prelude.{if◌then◌else◌, nat_eq}
 use Rattle.std.specs.List.{list_any}
 use Rattle.std.proofs.lemmas.Bool.{eqb-true, or_parts, false≢true}
 use Rattle.std.proofs.lemmas.Nat.{pow_pos}
-use Rattle.ax_ir.specs.declared.inst.Inst.{Inst}
-use Rattle.ax_ir.specs.declared.inst.Inst.TheVariants as inst
-use Rattle.ax_ir.specs.declared.module.Block.{Block}
-use Rattle.ax_ir.specs.declared.module.Function.{Function}
-use Rattle.ax_ir.specs.declared.module.Module.{Module}
-use Rattle.ax_ir.specs.declared.operand.Operand.{Operand}
-use Rattle.ax_ir.specs.declared.types.Ty.{Ty}
-use Rattle.ax_ir.specs.Kinds.{is_terminator}
-use Rattle.ax_layout.specs.SourceAccess.{put_at}
-use Rattle.ax_layout.specs.SourceInstructions.{entered, first_number, incoming, insts_of_block, is_phi, phi_number, phis_set}
-use Rattle.ax_layout.specs.SourcePointers.{blocks_in, blocks_of, insts_of}
-use Rattle.ax_layout.specs.SourceState.{SourceProcessor, SourceProgram, SourceValue, Number}
-use Rattle.ax_layout.specs.SourceValues.{operand_of, type_bits}
+use Rattle.ax_module.specs.declared.inst.Inst.{Inst}
+use Rattle.ax_module.specs.declared.inst.Inst.TheVariants as inst
+use Rattle.ax_module.specs.declared.module.Block.{Block}
+use Rattle.ax_module.specs.declared.module.Function.{Function}
+use Rattle.ax_module.specs.declared.module.Module.{Module}
+use Rattle.ax_module.specs.declared.operand.Operand.{Operand}
+use Rattle.ax_module.specs.declared.types.Ty.{Ty}
+use Rattle.ax_module.specs.Kinds.{is_terminator}
+use Rattle.ax_source_run.specs.SourceAccess.{put_at}
+use Rattle.ax_source_run.specs.SourceInstructions.{entered, first_number, incoming, insts_of_block, is_phi, phi_number, phis_set}
+use Rattle.ax_source_run.specs.SourcePointers.{blocks_in, blocks_of, insts_of}
+use Rattle.ax_source_run.specs.SourceState.{SourceProcessor, SourceProgram, SourceValue, Number}
+use Rattle.ax_source_run.specs.SourceValues.{operand_of, type_bits}
 use Rattle.ax_rules.specs.declared.facts.Outcome.{Outcome}
 use Rattle.ax_rules.specs.declared.facts.Scope.{Scope}
 use Rattle.ax_rules.specs.Facts.{outcome_of, scope_of}
-use Rattle.ax_rules.specs.Mixed.{is_mistyped, is_mixed_inst, is_mixed_pointer}
+use Rattle.ax_access_rules.specs.Mixed.{is_mistyped, is_mixed_inst, is_mixed_pointer}
 use Rattle.ax_rules.specs.Parts.{operands_of, pointers_of}
 use Rattle.ax_check.specs.Accepted.{IsAccepted}
 use Rattle.ax_check.specs.Laws.{AtInstructions, IsSound}

@@ -5,25 +5,25 @@ use Rattle.std.specs.List.{list_any}
 use Rattle.std.proofs.lemmas.Bool.{or_parts, true≢false}
 use Rattle.std.proofs.lemmas.List.Elements.{Contains-append_left, Contains-append_right}
 use Rattle.std.proofs.lemmas.Option.{none-some, same_Some}
-use Rattle.ax_ir.specs.declared.inst.Inst.{Inst}
-use Rattle.ax_ir.specs.declared.module.Module.{Module}
-use Rattle.ax_ir.specs.declared.operand.Addr.{Addr}
-use Rattle.ax_ir.specs.declared.operand.Base.{Base}
-use Rattle.ax_ir.specs.declared.operand.Base.TheVariants as base
-use Rattle.ax_ir.specs.declared.operand.Operand.{Operand}
-use Rattle.ax_ir.specs.declared.types.Ty.{Ty}
-use Rattle.ax_ir.specs.Kinds.{is_phi}
-use Rattle.ax_ir.specs.Types.{type_bytes}
-use Rattle.ax_layout.specs.SourceEvent.{number_of_next}
-use Rattle.ax_layout.specs.SourceInstructions.{is_inside, is_unreachable, traps}
-use Rattle.ax_layout.specs.SourcePointers.{pointer_of}
-use Rattle.ax_layout.specs.SourceState.{SourceProcessor, SourceProgram, SourceValue}
-use Rattle.ax_layout.specs.SourceValues.{operand_of}
+use Rattle.ax_module.specs.declared.inst.Inst.{Inst}
+use Rattle.ax_module.specs.declared.module.Module.{Module}
+use Rattle.ax_module.specs.declared.operand.Addr.{Addr}
+use Rattle.ax_module.specs.declared.operand.Base.{Base}
+use Rattle.ax_module.specs.declared.operand.Base.TheVariants as base
+use Rattle.ax_module.specs.declared.operand.Operand.{Operand}
+use Rattle.ax_module.specs.declared.types.Ty.{Ty}
+use Rattle.ax_module.specs.Kinds.{is_phi}
+use Rattle.ax_module.specs.Types.{type_bytes}
+use Rattle.ax_source_run.specs.SourceEvent.{number_of_next}
+use Rattle.ax_source_run.specs.SourceInstructions.{is_inside, is_unreachable, traps}
+use Rattle.ax_source_run.specs.SourcePointers.{pointer_of}
+use Rattle.ax_source_run.specs.SourceState.{SourceProcessor, SourceProgram, SourceValue}
+use Rattle.ax_source_run.specs.SourceValues.{operand_of}
 use Rattle.ax_rules.specs.declared.facts.Outcome.{Outcome}
 use Rattle.ax_rules.specs.declared.facts.Scope.{Scope}
 use Rattle.ax_rules.specs.Facts.{extent_of, origin_of, outcome_of, scope_of}
 use Rattle.ax_rules.specs.Kind.{is_bad_gep, is_bad_pointer, is_other}
-use Rattle.ax_rules.specs.Mixed.{is_element_of, is_mistyped, is_mixed_access, is_mixed_inst, is_mixed_pointer}
+use Rattle.ax_access_rules.specs.Mixed.{is_element_of, is_mistyped, is_mixed_access, is_mixed_inst, is_mixed_pointer}
 use Rattle.ax_rules.specs.Parts.{operands_of, pointers_of, types_of}
 use Rattle.ax_check.specs.declared.defined.Use.{Use}
 use Rattle.ax_check.specs.Accepted.{IsAccepted}

@@ -4,9 +4,9 @@ use Rattle.std.specs.Prelude.{if◌then◌else◌, nat_eq}
 use Rattle.std.proofs.lemmas.Bool.{and_parts, eqb-true}
 use Rattle.std.proofs.lemmas.Bool.Decides.{nat_tests}
 use Rattle.std.proofs.lemmas.List.Elements.{All-push}
-use Rattle.ax_ir.specs.declared.module.Module.{Module}
-use Rattle.ax_layout.specs.SourceAccess.{element_set, gets, goes_on, newest, put_at, set_if, written_into, written_out}
-use Rattle.ax_layout.specs.SourceState.{Object, Shared, Private, PendingStore, SourceProcessor, SourceValue}
+use Rattle.ax_module.specs.declared.module.Module.{Module}
+use Rattle.ax_source_run.specs.SourceAccess.{element_set, gets, goes_on, newest, put_at, set_if, written_into, written_out}
+use Rattle.ax_source_run.specs.SourceState.{Object, Shared, Private, PendingStore, SourceProcessor, SourceValue}
 use Rattle.ax_typed.specs.Typed.{AreTyped, IsAllocaOutcome, IsOf, IsResultOf, IsTypedProcessor, address_of, elem_of, outcome_in}
 
 -- ---- functions of which a value is set

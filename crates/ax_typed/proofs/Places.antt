@@ -5,13 +5,13 @@ use Rattle.std.specs.List.{list_all, prefix_len}
 use Rattle.std.proofs.lemmas.Bool.{and_parts, true≢false, false≢true}
 use Rattle.std.proofs.lemmas.List.Elements.{Contains-append_left, Contains-append_right}
 use Rattle.std.proofs.lemmas.Option.{none-some, same_Some}
-use Rattle.ax_ir.specs.declared.inst.Inst.{Inst}
-use Rattle.ax_ir.specs.declared.inst.Inst.TheVariants.{Phi}
-use Rattle.ax_ir.specs.declared.module.Block.{Block}
-use Rattle.ax_ir.specs.declared.module.Function.{Function}
-use Rattle.ax_ir.specs.Kinds.{is_phi, is_terminator}
-use Rattle.ax_ir.specs.WellFormed.{is_body, is_order}
-use Rattle.ax_layout.specs.SourceInstructions.{first_number, insts_of_block}
+use Rattle.ax_module.specs.declared.inst.Inst.{Inst}
+use Rattle.ax_module.specs.declared.inst.Inst.TheVariants.{Phi}
+use Rattle.ax_module.specs.declared.module.Block.{Block}
+use Rattle.ax_module.specs.declared.module.Function.{Function}
+use Rattle.ax_module.specs.Kinds.{is_phi, is_terminator}
+use Rattle.ax_module.specs.WellFormed.{is_body, is_order}
+use Rattle.ax_source_run.specs.SourceInstructions.{first_number, insts_of_block}
 use Rattle.ax_rules.specs.Points.{Spot, spots, spots_from, spots_of_block}
 
 abbrev pub all_insts : List Block → List Inst

@@ -6,23 +6,23 @@ use Rattle.std.proofs.lemmas.Bool.{and_parts, eqb-true, true≢false, false≢tr
 use Rattle.std.proofs.lemmas.Bool.Decides.{nat_tests}
 use Rattle.std.proofs.lemmas.Nat.{mod_below, pow_pos}
 use Rattle.std.proofs.lemmas.Option.{slice_get-map}
-use Rattle.ax_ir.specs.declared.inst.Inst.{Inst}
-use Rattle.ax_ir.specs.declared.inst.Inst.TheVariants as inst
-use Rattle.ax_ir.specs.declared.module.Function.{Function}
-use Rattle.ax_ir.specs.declared.module.Global.{Global}
-use Rattle.ax_ir.specs.declared.module.Module.{Module}
-use Rattle.ax_ir.specs.declared.operand.Addr.{Addr}
-use Rattle.ax_ir.specs.declared.operand.Base.{Base}
-use Rattle.ax_ir.specs.declared.operand.Base.TheVariants as base
-use Rattle.ax_ir.specs.declared.operand.Operand.{Operand}
-use Rattle.ax_ir.specs.declared.operand.Operand.TheVariants as operand
-use Rattle.ax_ir.specs.declared.types.Ty.{Ty}
-use Rattle.ax_layout.specs.SourceInstructions.{is_inside}
-use Rattle.ax_layout.specs.SourceEvent.{number_of_next}
-use Rattle.ax_ir.specs.Types.{type_bytes}
-use Rattle.ax_layout.specs.SourcePointers.{Elements, base_of, blocks_in, elements_of, elements_of_alloca, elements_of_global, insts_of, is_element, pointed, pointer_of, stepped_if}
-use Rattle.ax_layout.specs.SourceState.{Object, Shared, Private, Pointer, SourceProcessor, SourceProgram, SourceValue, Number, Pair, PointsTo}
-use Rattle.ax_layout.specs.SourceValues.{number_of, operand_of, type_bits}
+use Rattle.ax_module.specs.declared.inst.Inst.{Inst}
+use Rattle.ax_module.specs.declared.inst.Inst.TheVariants as inst
+use Rattle.ax_module.specs.declared.module.Function.{Function}
+use Rattle.ax_module.specs.declared.module.Global.{Global}
+use Rattle.ax_module.specs.declared.module.Module.{Module}
+use Rattle.ax_module.specs.declared.operand.Addr.{Addr}
+use Rattle.ax_module.specs.declared.operand.Base.{Base}
+use Rattle.ax_module.specs.declared.operand.Base.TheVariants as base
+use Rattle.ax_module.specs.declared.operand.Operand.{Operand}
+use Rattle.ax_module.specs.declared.operand.Operand.TheVariants as operand
+use Rattle.ax_module.specs.declared.types.Ty.{Ty}
+use Rattle.ax_source_run.specs.SourceInstructions.{is_inside}
+use Rattle.ax_source_run.specs.SourceEvent.{number_of_next}
+use Rattle.ax_module.specs.Types.{type_bytes}
+use Rattle.ax_source_run.specs.SourcePointers.{Elements, base_of, blocks_in, elements_of, elements_of_alloca, elements_of_global, insts_of, is_element, pointed, pointer_of, stepped_if}
+use Rattle.ax_source_run.specs.SourceState.{Object, Shared, Private, Pointer, SourceProcessor, SourceProgram, SourceValue, Number, Pair, PointsTo}
+use Rattle.ax_source_run.specs.SourceValues.{number_of, operand_of, type_bits}
 use Rattle.ax_rules.specs.declared.facts.Extent.{Extent}
 use Rattle.ax_rules.specs.declared.facts.Origin.TheVariants as origin
 use Rattle.ax_rules.specs.declared.facts.Outcome.{Outcome}
@@ -30,7 +30,7 @@ use Rattle.ax_rules.specs.declared.facts.Outcome.TheVariants as outcome
 use Rattle.ax_rules.specs.declared.facts.Scope.{Scope}
 use Rattle.ax_rules.specs.Facts.{extent_of, extent_of_global, extent_of_outcome, origin_of, origin_of_alloca, origin_of_step, origin_of_value, outcome_at, outcome_of, scope_of}
 use Rattle.ax_rules.specs.Kind.{is_alloca_address, is_bad_pointer, is_gep, is_gep_address}
-use Rattle.ax_rules.specs.Mixed.{is_element_of, is_mistyped, is_mixed_access, is_number_of, is_other_element}
+use Rattle.ax_access_rules.specs.Mixed.{is_element_of, is_mistyped, is_mixed_access, is_number_of, is_other_element}
 use Rattle.ax_check.specs.Accepted.{IsAccepted}
 use Rattle.ax_check.specs.Defined.{IsDefined, is_defined_at}
 use Rattle.ax_check.specs.Graph.{block_of}

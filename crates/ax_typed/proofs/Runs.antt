@@ -3,28 +3,28 @@ use Rattle.std.proofs.Common.{◌≡◌, ℕ, suc, ◌<◌, ◌^◌, Bool, true,
 use Rattle.std.specs.Prelude.{if◌then◌else◌, nat_eq}
 use Rattle.std.proofs.lemmas.List.Elements.{All-nil, All-push}
 use Rattle.std.proofs.lemmas.Nat.{pow_pos, mod_below}
-use Rattle.ax_ir.specs.declared.inst.Inst.{Inst}
-use Rattle.ax_ir.specs.declared.inst.Inst.TheVariants as inst
-use Rattle.ax_ir.specs.declared.module.Global.{Global}
-use Rattle.ax_ir.specs.declared.module.Module.{Module}
-use Rattle.ax_ir.specs.declared.operand.Base.TheVariants as base
-use Rattle.ax_ir.specs.declared.operand.Operand.{Operand}
-use Rattle.ax_ir.specs.declared.operand.Operand.TheVariants as operand
-use Rattle.ax_ir.specs.declared.types.Ty.{Ty}
-use Rattle.ax_ops.specs.declared.source.SourceEvent.{SourceEvent}
-use Rattle.ax_ops.specs.declared.source.SourceEvent.TheVariants.{Act, Look, Miss, Drain}
-use Rattle.ax_layout.specs.SourceAccess.{gets}
-use Rattle.ax_layout.specs.SourceEvent.{act, drained, expected_by, look, looked, miss, missed, next_inst, number_of_next, outputs_of, seen_by, source_event, with_processor}
-use Rattle.ax_layout.specs.SourceInstructions.{deed}
-use Rattle.ax_layout.specs.SourcePointers.{elements_of_global}
-use Rattle.ax_layout.specs.SourceRun.{constant_of, constants_of, first_processor, source_run, source_start}
-use Rattle.ax_layout.specs.SourceState.{Shared, Private, PendingStore, SourceProcessor, SourceProgram, SourceState, Number, Pair}
-use Rattle.ax_layout.specs.SourceValues.{operand_of, type_bits}
+use Rattle.ax_module.specs.declared.inst.Inst.{Inst}
+use Rattle.ax_module.specs.declared.inst.Inst.TheVariants as inst
+use Rattle.ax_module.specs.declared.module.Global.{Global}
+use Rattle.ax_module.specs.declared.module.Module.{Module}
+use Rattle.ax_module.specs.declared.operand.Base.TheVariants as base
+use Rattle.ax_module.specs.declared.operand.Operand.{Operand}
+use Rattle.ax_module.specs.declared.operand.Operand.TheVariants as operand
+use Rattle.ax_module.specs.declared.types.Ty.{Ty}
+use Rattle.ax_words.specs.declared.source.SourceEvent.{SourceEvent}
+use Rattle.ax_words.specs.declared.source.SourceEvent.TheVariants.{Act, Look, Miss, Drain}
+use Rattle.ax_source_run.specs.SourceAccess.{gets}
+use Rattle.ax_source_run.specs.SourceEvent.{act, drained, expected_by, look, looked, miss, missed, next_inst, number_of_next, outputs_of, seen_by, source_event, with_processor}
+use Rattle.ax_source_run.specs.SourceInstructions.{deed}
+use Rattle.ax_source_run.specs.SourcePointers.{elements_of_global}
+use Rattle.ax_source_run.specs.SourceRun.{constant_of, constants_of, first_processor, source_run, source_start}
+use Rattle.ax_source_run.specs.SourceState.{Shared, Private, PendingStore, SourceProcessor, SourceProgram, SourceState, Number, Pair}
+use Rattle.ax_source_run.specs.SourceValues.{operand_of, type_bits}
 use Rattle.ax_rules.specs.declared.facts.Outcome.{Outcome}
 use Rattle.ax_rules.specs.declared.facts.Outcome.TheVariants as outcome
 use Rattle.ax_rules.specs.Facts.{outcome_of, part_type}
 use Rattle.ax_rules.specs.Parts.{operands_of}
-use Rattle.ax_rules.specs.Tests.{has_width}
+use Rattle.ax_access_rules.specs.RulesAtPoints.{has_width}
 use Rattle.ax_check.specs.Accepted.{IsAccepted}
 use Rattle.ax_check.specs.Laws.{AtInstructions, AtPoints, IsSound}
 use Rattle.ax_typed.specs.Typed.{IsAllocaOutcome, IsOf, IsResultOf, IsTyped, IsTypedProcessor, elem_of, outcome_in}

@@ -4,20 +4,20 @@ use Rattle.std.specs.List.{list_any}
 use Rattle.std.proofs.lemmas.Bool.{or_parts}
 use Rattle.std.proofs.lemmas.List.Elements.{Contains-append_left}
 use Rattle.std.proofs.lemmas.Option.{none-some, same_Some}
-use Rattle.ax_ir.specs.declared.inst.Inst.{Inst}
-use Rattle.ax_ir.specs.declared.inst.Inst.TheVariants as inst
-use Rattle.ax_ir.specs.declared.module.Function.{Function}
-use Rattle.ax_ir.specs.declared.module.Global.{Global}
-use Rattle.ax_ir.specs.declared.module.Module.{Module}
-use Rattle.ax_ir.specs.declared.types.Ty.{Ty}
-use Rattle.ax_ir.specs.Types.{type_bytes}
-use Rattle.ax_ir.specs.WellFormed.{is_bit}
-use Rattle.ax_layout.specs.SourcePointers.{blocks_in, elements_of_alloca, elements_of_global}
-use Rattle.ax_layout.specs.SourceState.{Object, Shared, Private, SourceProgram}
-use Rattle.ax_layout.specs.SourceValues.{type_bits}
+use Rattle.ax_module.specs.declared.inst.Inst.{Inst}
+use Rattle.ax_module.specs.declared.inst.Inst.TheVariants as inst
+use Rattle.ax_module.specs.declared.module.Function.{Function}
+use Rattle.ax_module.specs.declared.module.Global.{Global}
+use Rattle.ax_module.specs.declared.module.Module.{Module}
+use Rattle.ax_module.specs.declared.types.Ty.{Ty}
+use Rattle.ax_module.specs.Types.{type_bytes}
+use Rattle.ax_module.specs.WellFormed.{is_bit}
+use Rattle.ax_source_run.specs.SourcePointers.{blocks_in, elements_of_alloca, elements_of_global}
+use Rattle.ax_source_run.specs.SourceState.{Object, Shared, Private, SourceProgram}
+use Rattle.ax_source_run.specs.SourceValues.{type_bits}
 use Rattle.ax_rules.specs.Parts.{pointers_of, types_of}
 use Rattle.ax_rules.specs.Points.{AtGlobal, Point, points_of_functions, points_of_globals}
-use Rattle.ax_rules.specs.Tests.{has_width}
+use Rattle.ax_access_rules.specs.RulesAtPoints.{has_width}
 use Rattle.ax_rules.specs.Width.{has_wide_step, is_left_out, is_odd, memory_types, width_fault}
 use Rattle.ax_check.specs.Accepted.{IsAccepted}
 use Rattle.ax_check.specs.Laws.{AtInstructions, AtPoints, IsSound}

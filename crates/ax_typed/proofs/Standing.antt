@@ -5,22 +5,22 @@ use Rattle.std.specs.List.{list_all, list_any}
 use Rattle.std.proofs.lemmas.Bool.{and_parts, eqb-true, or_parts, false≢true}
 use Rattle.std.proofs.lemmas.Bool.Decides.{nat_tests}
 use Rattle.std.proofs.lemmas.Option.{none-some, same_Some, slice_get_within}
-use Rattle.ax_ir.specs.declared.inst.Inst.{Inst}
-use Rattle.ax_ir.specs.declared.inst.Inst.TheVariants as inst
-use Rattle.ax_ir.specs.declared.module.Block.{Block}
-use Rattle.ax_ir.specs.declared.module.Function.{Function}
-use Rattle.ax_ir.specs.declared.module.Module.{Module}
-use Rattle.ax_ir.specs.Kinds.{is_terminator}
-use Rattle.ax_ir.specs.Ranges.{is_function_in_range, is_global_in_range, is_inst_in_range, is_stated_word, is_word}
-use Rattle.ax_ir.specs.WellFormed.{all_differ, is_block, is_function, is_global, is_inst, is_order, names_of, scope_of as formed_scope}
-use Rattle.ax_ops.specs.declared.source.SourceStatus.{SourceStatus}
-use Rattle.ax_ops.specs.declared.source.SourceStatus.TheVariants.{Running, Ended, Trapped}
-use Rattle.ax_layout.specs.SourceEvent.{inst_at, inst_if, next_inst, number_of_next}
-use Rattle.ax_layout.specs.SourceInstructions.{first_number, insts_of_block}
-use Rattle.ax_layout.specs.SourcePointers.{blocks_in, blocks_of, elements_of_alloca}
-use Rattle.ax_layout.specs.SourceState.{SourceProcessor, SourceProgram}
+use Rattle.ax_module.specs.declared.inst.Inst.{Inst}
+use Rattle.ax_module.specs.declared.inst.Inst.TheVariants as inst
+use Rattle.ax_module.specs.declared.module.Block.{Block}
+use Rattle.ax_module.specs.declared.module.Function.{Function}
+use Rattle.ax_module.specs.declared.module.Module.{Module}
+use Rattle.ax_module.specs.Kinds.{is_terminator}
+use Rattle.ax_module.specs.Ranges.{is_function_in_range, is_global_in_range, is_inst_in_range, is_stated_word, is_word}
+use Rattle.ax_module.specs.WellFormed.{all_differ, is_block, is_function, is_global, is_inst, is_order, names_of, scope_of as formed_scope}
+use Rattle.ax_words.specs.declared.source.SourceStatus.{SourceStatus}
+use Rattle.ax_words.specs.declared.source.SourceStatus.TheVariants.{Running, Ended, Trapped}
+use Rattle.ax_source_run.specs.SourceEvent.{inst_at, inst_if, next_inst, number_of_next}
+use Rattle.ax_source_run.specs.SourceInstructions.{first_number, insts_of_block}
+use Rattle.ax_source_run.specs.SourcePointers.{blocks_in, blocks_of, elements_of_alloca}
+use Rattle.ax_source_run.specs.SourceState.{SourceProcessor, SourceProgram}
 use Rattle.ax_rules.specs.declared.facts.Outcome.TheVariants as outcome
-use Rattle.ax_rules.specs.Allocas.{is_address, is_late_alloca, misplaced}
+use Rattle.ax_access_rules.specs.Allocas.{is_address, is_late_alloca, misplaced}
 use Rattle.ax_rules.specs.Facts.{outcome_at, outcome_of, scope_of}
 use Rattle.ax_rules.specs.Parts.{operands_of}
 use Rattle.ax_check.specs.Accepted.{IsAccepted}

@@ -7,19 +7,19 @@ use Rattle.std.proofs.lemmas.List.{get_or_past}
 use Rattle.std.proofs.lemmas.Nat.{pow_pos, mod_below}
 use Rattle.std.proofs.Math.Nat.{div-le_self}
 use Rattle.std.proofs.Math.Pow.{pow_mono}
-use Rattle.ax_ir.specs.declared.inst.BinOp.{BinOp}
-use Rattle.ax_ir.specs.declared.inst.BinOp.TheVariants as bin
-use Rattle.ax_ir.specs.declared.inst.Cast.{Cast}
-use Rattle.ax_ir.specs.declared.inst.Cast.TheVariants.{Zext, Sext, Trunc}
-use Rattle.ax_ir.specs.declared.types.Ty.{Ty}
-use Rattle.ax_ir.specs.declared.types.Ty.TheVariants.{I1, I8, I16, I32, I64, I128, Int, Float, Double, Ptr, Vector}
-use Rattle.ax_ir.specs.Types.{type_bytes}
-use Rattle.ax_ir.specs.WellFormed.{is_bit}
-use Rattle.ax_ops.specs.declared.operation.RmwOp.{RmwOp}
-use Rattle.ax_ops.specs.declared.operation.RmwOp.TheVariants as rmw
+use Rattle.ax_module.specs.declared.inst.BinOp.{BinOp}
+use Rattle.ax_module.specs.declared.inst.BinOp.TheVariants as bin
+use Rattle.ax_module.specs.declared.inst.Cast.{Cast}
+use Rattle.ax_module.specs.declared.inst.Cast.TheVariants.{Zext, Sext, Trunc}
+use Rattle.ax_module.specs.declared.types.Ty.{Ty}
+use Rattle.ax_module.specs.declared.types.Ty.TheVariants.{I1, I8, I16, I32, I64, I128, Int, Float, Double, Ptr, Vector}
+use Rattle.ax_module.specs.Types.{type_bytes}
+use Rattle.ax_module.specs.WellFormed.{is_bit}
+use Rattle.ax_words.specs.declared.operation.RmwOp.{RmwOp}
+use Rattle.ax_words.specs.declared.operation.RmwOp.TheVariants as rmw
 use Rattle.ax_ops.specs.Operation.{result_of, signed}
-use Rattle.ax_layout.specs.SourceValues.{computed, converted, number_of_flag, shifted_down, type_bits, wrapped}
-use Rattle.ax_rules.specs.Mixed.{converts}
+use Rattle.ax_source_run.specs.SourceValues.{computed, converted, number_of_flag, shifted_down, type_bits, wrapped}
+use Rattle.ax_access_rules.specs.Mixed.{converts}
 use Rattle.ax_rules.specs.Parts.{same_type, type_number}
 use Rattle.ax_rules.specs.Width.{is_odd}
 use Rattle.ax_typed.specs.Typed.{IsOf}

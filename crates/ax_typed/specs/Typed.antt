@@ -1,13 +1,13 @@
 -- Typed numbers: in each state of an accepted module's source machine each number is one of its type (LLVM Language Reference, Integer Type).
 use Rattle.std.specs.Prelude.{◌≡◌, ℕ, ◌<◌, ◌^◌, All, Option, Some, None, slice_get}
-use Rattle.ax_ir.specs.declared.inst.Inst.{Inst}
-use Rattle.ax_ir.specs.declared.module.Module.{Module}
-use Rattle.ax_ir.specs.declared.operand.Base.{Base}
-use Rattle.ax_ir.specs.declared.operand.Base.TheVariants as base
-use Rattle.ax_ir.specs.declared.types.Ty.{Ty}
-use Rattle.ax_layout.specs.SourcePointers.{elements_of, insts_of}
-use Rattle.ax_layout.specs.SourceState.{Object, Shared, Private, PendingStore, SourceProcessor, SourceState, SourceValue, Number, Pair, PointsTo}
-use Rattle.ax_layout.specs.SourceValues.{number_of, part_of, type_bits}
+use Rattle.ax_module.specs.declared.inst.Inst.{Inst}
+use Rattle.ax_module.specs.declared.module.Module.{Module}
+use Rattle.ax_module.specs.declared.operand.Base.{Base}
+use Rattle.ax_module.specs.declared.operand.Base.TheVariants as base
+use Rattle.ax_module.specs.declared.types.Ty.{Ty}
+use Rattle.ax_source_run.specs.SourcePointers.{elements_of, insts_of}
+use Rattle.ax_source_run.specs.SourceState.{Object, Shared, Private, PendingStore, SourceProcessor, SourceState, SourceValue, Number, Pair, PointsTo}
+use Rattle.ax_source_run.specs.SourceValues.{number_of, part_of, type_bits}
 use Rattle.ax_rules.specs.declared.facts.Outcome.{Outcome}
 use Rattle.ax_rules.specs.declared.facts.Outcome.TheVariants as outcome
 use Rattle.ax_rules.specs.Facts.{outcome_of, part_type}

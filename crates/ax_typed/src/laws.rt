@@ -1,10 +1,10 @@
 //! What holds of every run of an accepted module.
 
 ghost use Rattle.std.specs.Prelude.{ℕ, List};
-ghost use Rattle.ax_ops.specs.declared.source.SourceEvent.{SourceEvent};
-ghost use Rattle.ax_layout.specs.SourceEvent.{source_event};
-ghost use Rattle.ax_layout.specs.SourceRun.{source_run, source_start};
-ghost use Rattle.ax_layout.specs.SourceState.{SourceProgram, SourceState};
+ghost use Rattle.ax_words.specs.declared.source.SourceEvent.{SourceEvent};
+ghost use Rattle.ax_source_run.specs.SourceEvent.{source_event};
+ghost use Rattle.ax_source_run.specs.SourceRun.{source_run, source_start};
+ghost use Rattle.ax_source_run.specs.SourceState.{SourceProgram, SourceState};
 ghost use Rattle.ax_check.specs.Accepted.{IsAccepted};
 ghost use Rattle.ax_typed.specs.Typed.{IsTyped};
 

@@ -2,11 +2,11 @@
 //! Operations, Conversion Operations, `icmp`, `getelementptr`).
 
 ghost use Rattle.std.specs.Prelude.{◌≡◌, ◌≤◌, ◌*◌, ◌/◌, ◌%◌, ◌^◌};
-ghost use Rattle.ax_layout.specs.SourceValues.{computed, converted, holds, index_of, shifted_down, type_bits};
+ghost use Rattle.ax_source_run.specs.SourceValues.{computed, converted, holds, index_of, shifted_down, type_bits};
 
 use crate::updates::{difference, sum};
 use crate::words::{bits, extended, greatest, half, is_less, low};
-use ax_ir::{BinOp, Cast, Pred, Ty};
+use ax_module::{BinOp, Cast, Pred, Ty};
 
 /// A shift to the left mod 2^bits.
 #[tactic(auto, using(crate::proofs::Cuts::shifts))]

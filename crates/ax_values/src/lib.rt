@@ -8,6 +8,3 @@ mod words;
 pub use arithmetic::{compare, compute, convert, index};
 pub use updates::update;
 pub use words::{bits, extended, low, wrapped};
-
-#[cfg(test)]
-mod tests;

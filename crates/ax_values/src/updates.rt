@@ -4,7 +4,7 @@ ghost use Rattle.std.specs.Prelude.{◌≡◌, ◌≤◌, ◌+◌, ◌-◌, ◌%
 ghost use Rattle.ax_ops.specs.Operation.{result_of};
 
 use crate::words::{greatest, is_less, low};
-use ax_ops::RmwOp;
+use ax_words::RmwOp;
 
 /// A sum mod 2^bits.
 #[tactic(auto, using(crate::proofs::Cuts::sums))]

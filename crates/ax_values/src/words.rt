@@ -2,9 +2,9 @@
 
 ghost use Rattle.std.specs.Prelude.{◌≡◌, ◌≤◌, ◌-◌, ◌%◌, ◌^◌, int_lt};
 ghost use Rattle.ax_ops.specs.Operation.{signed};
-ghost use Rattle.ax_layout.specs.SourceValues.{type_bits, wrapped};
+ghost use Rattle.ax_source_run.specs.SourceValues.{type_bits, wrapped};
 
-use ax_ir::Ty;
+use ax_module::Ty;
 
 /// How many bits a value of the type has; those of a type that is no whole number are its bytes'.
 pub fn bits(ty: Ty) -> u32

@@ -1,6 +1,6 @@
 use Rattle.std.proofs.Common.{◌≡◌, ◌++◌, drop}
 use Rattle.std.specs.String.{string_bytes}
-use Rattle.ax_ir.specs.declared.module.Module.{Module}
+use Rattle.ax_module.specs.declared.module.Module.{Module}
 use Rattle.ax_first.specs.Alike.{IsProgramOf, on_rv64}
 use Rattle.ax_isa.specs.Run.{Machine}
 use Rattle.ax_run.specs.Machine.{Shows}

@@ -1,15 +1,23 @@
 use Rattle.std.proofs.Common.{◌≡◌, ◌++◌, length, map, refl, sym, ap, ◌∙◌, subst, false}
 use Rattle.std.specs.Prelude.{All}
 use Rattle.std.specs.String.{string_bytes}
-use Rattle.ax_ir.specs.Names.{IsAscii}
+use Rattle.ax_module.specs.Names.{IsAscii}
 use Rattle.ax_first.specs.Alike.{IsProgramOf, on_rv64}
 use Rattle.ax_sched.specs.Events.{events_of}
+use Rattle.ax_agree.specs.Sound.{IsSound, are_names}
+use Rattle.ax_rv.specs.Instructions.{IsInstr, rv_kind}
 use Rattle.ax_lower.specs.FirstLowers.{run_of}
 use Rattle.ax_print.specs.Assembly.{assembly_text}
 use Rattle.ax_run.specs.Run.{IsOf}
 use Rattle.ax_app.specs.Report.{run_report}
 use Rattle.ax_app.proofs.Reports.{begun, gone}
+use Rattle.ax_app.proofs.FunctionNames.{names_fine}
 use Rattle.ax_app.proofs.text.text_of.Goals as goal
+
+pub lower-requires-clause-names : goal.lower-requires-clause-names
+lower-requires-clause-names c =
+    let p = c.requires.program in
+    ap are_names p.kept.function_names ∙ names_fine c.args.built.accepted.source p.formed
 
 pub print-requires-clause-names : goal.print-requires-clause-names
 print-requires-clause-names c =
@@ -28,7 +36,6 @@ returns c =
     let p = c.requires.program in
     let plan = c.args.plan.now in
     let image = c.in_ok-lowered.lowered.image in
-    let events = events_of false plan in
     let of_program : IsProgramOf m first.program = record { kind = first; first = p.first; is = refl } in
     let r = c.go.new.self in
     let x = run_of r.machine.image r.program r.plan.entries (events_of false r.plan) in
@@ -48,7 +55,8 @@ returns c =
       lowers = c.in_ok-lowered.ensures.lowers m of_program;
       busy = c.in_ok-lowered.ensures.busy m of_program;
       rows = c.in_ok-lowered.ensures.rows m of_program;
+      sound = subst (λ names. IsSound rv_kind IsInstr names image) p.kept.function_names c.in_ok-lowered.ensures.sound;
       whole = wrote ∙ ap (λ h. h ++ report) head
           ∙ ap (λ names. assembly_text functions image ++ run_report (on_rv64 m) names (length r.plan.entries) x r.machine.sources r.machine.events) (c.as_slice.ensures ∙ p.kept.global_names)
-          ∙ ap (λ t. assembly_text functions image ++ t) (gone (on_rv64 m) globals r image first.program plan of c.go.ensures.ran ∙ begun (on_rv64 m) globals c.runs_begin_alike.ensures m first.program of_program image plan.entries events (length plan.entries));
+          ∙ ap (λ t. assembly_text functions image ++ t) (gone (on_rv64 m) globals r image first.program plan of c.go.ensures.ran ∙ begun c.runs_begin_alike.ensures m globals first.program of_program image plan);
     }

@@ -1,6 +1,6 @@
 use Rattle.std.proofs.Common.{◌≡◌, ◌++◌, map, drop}
 use Rattle.std.specs.List.{flat_map}
-use Rattle.ax_ir.specs.declared.module.Block.{Block}
+use Rattle.ax_module.specs.declared.module.Block.{Block}
 use Rattle.ax_cells.specs.Memories.{zeros_of}
 use Rattle.ax_cells.proofs.memory.alloca_arrays.Given as goal
 

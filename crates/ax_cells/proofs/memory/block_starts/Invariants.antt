@@ -1,6 +1,6 @@
 use Rattle.std.proofs.Common.{◌≡◌, ◌+◌, ◌++◌, drop, length}
 use Rattle.std.specs.List.{flat_map}
-use Rattle.ax_ir.specs.declared.module.Block.{Block}
+use Rattle.ax_module.specs.declared.module.Block.{Block}
 use Rattle.ax_cells.specs.Memories.{starts_from}
 use Rattle.ax_cells.proofs.memory.block_starts.Given as goal
 

@@ -1,5 +1,5 @@
 use Rattle.std.proofs.Common.{◌≡◌, drop}
-use Rattle.ax_layout.specs.SourceAccess.{written_out}
+use Rattle.ax_source_run.specs.SourceAccess.{written_out}
 use Rattle.ax_cells.specs.Shapes.{cells_of, shapes_of}
 use Rattle.ax_cells.proofs.pending.write_stores.Given as goal
 

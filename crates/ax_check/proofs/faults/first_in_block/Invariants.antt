@@ -1,6 +1,6 @@
 use Rattle.std.proofs.Common.{◌+◌, Option, drop}
-use Rattle.ax_ir.specs.declared.module.Module.{Module}
-use Rattle.ax_check.specs.declared.accepted.Refusal.{Refusal}
+use Rattle.ax_module.specs.declared.module.Module.{Module}
+use Rattle.ax_check.specs.declared.refusal.Refusal.{Refusal}
 use Rattle.ax_check.specs.Faults.{FirstInBlock}
 use Rattle.ax_check.specs.Ready.{IsReady}
 use Rattle.ax_check.proofs.faults.first_in_block.Given as goal

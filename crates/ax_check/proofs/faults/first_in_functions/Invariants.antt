@@ -1,5 +1,5 @@
 use Rattle.std.proofs.Common.{◌≤◌, Option, drop}
-use Rattle.ax_check.specs.declared.accepted.Refusal.{Refusal}
+use Rattle.ax_check.specs.declared.refusal.Refusal.{Refusal}
 use Rattle.ax_check.specs.Faults.{FirstInFunctions}
 use Rattle.ax_check.proofs.faults.first_in_functions.Given as goal
 

@@ -2,7 +2,7 @@ use Rattle.std.proofs.Common.{rules, subst, arith}
 use Rattle.ax_rules.specs.Points.{AtGlobal}
 use Rattle.ax_check.specs.Faults.{FirstRule}
 use Rattle.ax_check.proofs.Firsts.{globals_skip, globals_stop}
-use Rattle.ax_ir.specs.Ranges.{is_global_in_range}
+use Rattle.ax_module.specs.Ranges.{is_global_in_range}
 use Rattle.ax_check.proofs.Lays.{fine_on}
 use Rattle.ax_check.proofs.Ranges.{passes_at}
 use Rattle.ax_check.proofs.faults.first_in_globals.Goals as goal

@@ -1,7 +1,7 @@
 use Rattle.std.proofs.Common.{◌≡◌, ◌≤◌, Option, drop}
 use Rattle.ax_target.specs.declared.target.Target.{Target}
-use Rattle.ax_rules.specs.Tests.{has_fault_from}
-use Rattle.ax_check.specs.declared.accepted.Refusal.{Refusal}
+use Rattle.ax_access_rules.specs.RulesAtPoints.{has_fault_from}
+use Rattle.ax_check.specs.declared.refusal.Refusal.{Refusal}
 use Rattle.ax_check.specs.Faults.{FirstInGlobals}
 use Rattle.ax_check.proofs.faults.first_in_globals.Given as goal
 

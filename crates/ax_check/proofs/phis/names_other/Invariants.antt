@@ -1,6 +1,6 @@
 use Rattle.std.proofs.Common.{ℕ, ◌<◌, slice_index_or}
 use Rattle.ax_check.specs.Walk.{Leads}
-use Rattle.ax_ir.specs.declared.operand.Operand.{Operand}
+use Rattle.ax_module.specs.declared.operand.Operand.{Operand}
 use Rattle.ax_check.proofs.phis.names_other.Given as goal
 
 abbrev pub invariant-loop-operand : goal.invariant-loop-operand

@@ -1,8 +1,8 @@
 use Rattle.std.proofs.Common.{rules, sym, ◌<◌, slice_index_or, None, ◌∙◌, ℕ, length, pos}
 use Rattle.std.proofs.lemmas.List.{get_or_default, get_or_read}
 use Rattle.std.proofs.lemmas.Bool.{iff_false}
-use Rattle.ax_ir.specs.declared.operand.Operand.{Operand}
-use Rattle.ax_ir.specs.declared.operand.Operand.TheVariants.{Const}
+use Rattle.ax_module.specs.declared.operand.Operand.{Operand}
+use Rattle.ax_module.specs.declared.operand.Operand.TheVariants.{Const}
 use Rattle.ax_check.proofs.phis.operands.Goals as goal
 
 pub returns-then-not-is_same : goal.returns-then-not-is_same

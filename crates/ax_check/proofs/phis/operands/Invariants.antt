@@ -1,5 +1,5 @@
 use Rattle.std.proofs.Common.{ℕ, ◌<◌, ◌≡◌, slice_index_or, length, None, Some, Contains}
-use Rattle.ax_ir.specs.declared.operand.Operand.{Operand}
+use Rattle.ax_module.specs.declared.operand.Operand.{Operand}
 use Rattle.ax_check.proofs.phis.operands.Given as goal
 
 abbrev pub invariant-loop-operand : goal.invariant-loop-operand

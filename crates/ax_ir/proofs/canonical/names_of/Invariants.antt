@@ -1,5 +1,5 @@
 use Rattle.std.proofs.Common.{◌≡◌, map, take}
-use Rattle.ax_ir.specs.Names.{global_token}
+use Rattle.ax_module.specs.Names.{global_token}
 use Rattle.ax_ir.proofs.canonical.names_of.Given as goal
 
 abbrev pub invariant-loop-global : goal.invariant-loop-global

@@ -1,5 +1,5 @@
 use Rattle.std.proofs.Common.{subst, sym}
-use Rattle.ax_ir.specs.Ascii.{NamesAscii}
+use Rattle.ax_module.specs.Ascii.{NamesAscii}
 use Rattle.ax_ir.proofs.canonical.push_functions.Goals as goal
 
 pub push_function-requires : goal.push_function-requires

@@ -1,7 +1,7 @@
 use Rattle.std.proofs.Common.{All, subst, sym}
-use Rattle.ax_ir.specs.Ascii.{NamesAscii}
-use Rattle.ax_ir.specs.Names.{IsAscii}
-use Rattle.ax_ir.proofs.Ascii.{globals_ascii, functions_ascii}
+use Rattle.ax_module.specs.Ascii.{NamesAscii}
+use Rattle.ax_module.specs.Names.{IsAscii}
+use Rattle.ax_module.proofs.Ascii.{globals_ascii, functions_ascii}
 use Rattle.ax_ir.proofs.canonical.spell.Goals as goal
 
 pub names_of-requires : goal.names_of-requires

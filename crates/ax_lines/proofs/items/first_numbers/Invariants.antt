@@ -1,7 +1,7 @@
 use Rattle.std.proofs.Common.{length}
 use Rattle.ax_lines.specs.Productions.{element}
-use Rattle.ax_lines.specs.Grammar.{reads, list}
-use Rattle.ax_lines.proofs.Commas.{Listing}
+use Rattle.ax_symbols.specs.Grammar.{reads, list}
+use Rattle.ax_symbols.proofs.Commas.{Listing}
 use Rattle.ax_lines.proofs.items.first_numbers.Given as goal
 
 abbrev pub invariant-loop-item : goal.invariant-loop-item

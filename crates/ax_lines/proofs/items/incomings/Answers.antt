@@ -1,6 +1,6 @@
 use Rattle.ax_lines.specs.Productions.{incoming}
-use Rattle.ax_lines.specs.Grammar.{reads, list}
-use Rattle.ax_lines.proofs.Commas.{list_ends, list_goes_on, list_smaller}
+use Rattle.ax_symbols.specs.Grammar.{reads, list}
+use Rattle.ax_symbols.proofs.Commas.{list_ends, list_goes_on, list_smaller}
 use Rattle.ax_lines.proofs.items.incomings.Goals as goal
 
 pub returns-in_default-strip : goal.returns-in_default-strip

@@ -1,4 +1,4 @@
-use Rattle.ax_lines.specs.Symbols.{is_feed}
+use Rattle.ax_symbols.specs.Symbols.{is_feed}
 use Rattle.ax_lines.proofs.Places.{empty_behind, next_behind}
 use Rattle.ax_lines.proofs.lines.first_line.Goals as goal
 

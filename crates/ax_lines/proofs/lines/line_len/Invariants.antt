@@ -1,6 +1,6 @@
 use Rattle.std.proofs.Common.{◌≡◌, ◌+◌, drop}
 use Rattle.std.specs.List.{position_or_len}
-use Rattle.ax_lines.specs.Symbols.{is_feed}
+use Rattle.ax_symbols.specs.Symbols.{is_feed}
 use Rattle.ax_lines.proofs.lines.line_len.Given as goal
 
 abbrev pub invariant-loop-symbol : goal.invariant-loop-symbol

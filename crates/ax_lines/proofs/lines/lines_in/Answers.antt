@@ -2,7 +2,7 @@ use Rattle.std.proofs.Common.{◌≡◌, length, [], sym, subst, rules}
 use Rattle.std.specs.List.{slice_split}
 use Rattle.std.proofs.lemmas.Option.{MatchOption-at_none, MatchOption-at_some}
 use Rattle.ax_lines.specs.declared.statement.Place.TheVariants as place
-use Rattle.ax_lines.specs.Symbols.{is_feed}
+use Rattle.ax_symbols.specs.Symbols.{is_feed}
 use Rattle.ax_lines.specs.Lines.{IsSyntax, InPlace}
 use Rattle.ax_lines.proofs.Places.{Walked, has_first, walk_stops, walk_goes_on, walk_open, walk_ends}
 use Rattle.ax_lines.proofs.lines.lines_in.Goals as goal

@@ -1,6 +1,6 @@
 use Rattle.std.proofs.Common.{length}
 use Rattle.std.specs.List.{slice_split}
-use Rattle.ax_lines.specs.Symbols.{is_feed}
+use Rattle.ax_symbols.specs.Symbols.{is_feed}
 use Rattle.ax_lines.proofs.Places.{Walked}
 use Rattle.ax_lines.proofs.lines.lines_in.Given as goal
 

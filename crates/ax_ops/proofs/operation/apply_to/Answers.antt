@@ -1,4 +1,4 @@
-use Rattle.ax_ops.specs.declared.operation.RmwOp.TheVariants.{Or, Xor}
+use Rattle.ax_words.specs.declared.operation.RmwOp.TheVariants.{Or, Xor}
 use Rattle.ax_ops.proofs.Operations.{result_of-fits}
 use Rattle.ax_ops.proofs.operation.apply_to.Goals as goal
 

@@ -1,6 +1,6 @@
 use Rattle.std.proofs.Common.{map, ap, sym, ◌∙◌, List, ℕ}
 use Rattle.std.proofs.lemmas.Result.{IfOk-weaker}
-use Rattle.ax_ir.specs.declared.operand.Operand.{Operand}
+use Rattle.ax_module.specs.declared.operand.Operand.{Operand}
 use Rattle.ax_rules.specs.Parts.{operands_of}
 use Rattle.ax_rules.proofs.parts.operands_in.Goals as goal
 

@@ -10,7 +10,7 @@ store-requires-clause-sizes c =
     let frames : c.as_slice-4.result.now ≡ frames_for c.args.image.now.frames c.args.entries.now =
     c.as_slice-4.ensures.value ∙ c.in_ok-frames.ensures ∙ ap (λ sizes. frames_for sizes c.args.entries.now) c.as_slice.ensures
     in
-    subst (λ (sizes : List ℕ). All IsFrameSize sizes) (sym frames) (frames_fit c.args.image.now c.args.program.now c.args.entries.now c.requires.sound c.requires.entries)
+    subst (λ (sizes : List ℕ). All IsFrameSize sizes) (sym frames) (frames_fit c.args.image.now c.args.program.now c.args.entries.now c.requires.functions c.requires.entries)
 
 pub invariant_of-result : goal.invariant_of-result
 invariant_of-result c =
@@ -20,7 +20,7 @@ invariant_of-result c =
       omega (arith, c.in_ok-sources.ensures.len, c.in_ok-sources.ensures.exact),
       omega (arith, c.in_ok-made.ensures.len, c.in_ok-made.ensures.exact),
       record {
-        instructions = c.requires.sound.instructions;
+        instructions = c.requires.code.instructions;
         unbuffered = c.in_ok-store.ensures.unbuffered;
         count = c.in_ok-store.ensures.processors ∙ ap length (c.as_slice-4.ensures.value ∙ c.in_ok-frames.ensures) ∙ frames_length c.as_slice.result.now entries ∙ sym count;
         some = (let h = c.requires.entries.some in omega arith);

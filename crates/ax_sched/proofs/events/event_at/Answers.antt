@@ -1,5 +1,5 @@
 use Rattle.std.proofs.Common.{◌<◌, ap, sym, ◌∙◌, subst, slice_index_or}
-use Rattle.ax_isa.specs.declared.events.Event.TheVariants.{Step}
+use Rattle.ax_words.specs.declared.event.Event.TheVariants.{Step}
 use Rattle.ax_sched.specs.Plan.{times_of}
 use Rattle.ax_sched.specs.Events.{item_events}
 use Rattle.ax_sched.proofs.EventsLemmas.{round_at}

@@ -1,7 +1,7 @@
 use Rattle.std.proofs.Common.{◌≡◌, drop}
-use Rattle.ax_scope.specs.Scope.{added}
+use Rattle.ax_scope.specs.NameTable.{added}
 use Rattle.ax_scope.specs.Names.{params_from}
 use Rattle.ax_scope.proofs.declared.add_params.Given as goal
 
-abbrev pub invariant-loop-name : goal.invariant-loop-name
-invariant-loop-name l = added l.values (params_from l.text l.number (drop l.name-index l.params)) ≡ added l.fn.values (params_from l.text 0 l.params)
+abbrev pub invariant-loop-number : goal.invariant-loop-number
+invariant-loop-number l = added l.values (params_from l.text l.number (drop l.number l.params)) ≡ added l.fn.values (params_from l.text 0 l.params)

@@ -1,5 +1,5 @@
 use Rattle.std.proofs.Common.{◌≡◌, ◌≤◌, drop}
-use Rattle.ax_scope.specs.Scope.{added}
+use Rattle.ax_scope.specs.NameTable.{added}
 use Rattle.ax_scope.specs.Names.{results_from}
 use Rattle.ax_scope.proofs.declared.add_results.Given as goal
 

@@ -1,5 +1,5 @@
 use Rattle.std.proofs.Common.{◌≡◌, ◌∙◌}
-use Rattle.ax_scope.specs.Scope.{look}
+use Rattle.ax_scope.specs.NameTable.{look}
 use Rattle.ax_scope.specs.Names.{entry_name}
 use Rattle.ax_scope.proofs.Takes.{same_looks, built, found}
 use Rattle.ax_scope.proofs.function.body_in.Goals as goal

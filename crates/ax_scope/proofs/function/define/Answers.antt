@@ -1,5 +1,5 @@
 use Rattle.std.proofs.Common.{◌∙◌, sym, ap, length, take, ◌≤◌, arith}
-use Rattle.ax_scope.specs.Scope.{look}
+use Rattle.ax_scope.specs.NameTable.{look}
 use Rattle.ax_scope.proofs.Takes.{taken, missed_by}
 use Rattle.ax_scope.proofs.function.define.Goals as goal
 

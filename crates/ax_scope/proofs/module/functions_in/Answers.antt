@@ -1,9 +1,10 @@
 use Rattle.std.proofs.Common.{◌≡◌, ◌+◌, ◌∙◌, ◌++◌, List, None, ap, length, drop, sym, arith}
-use Rattle.ax_scope.specs.Scope.{look}
+use Rattle.ax_scope.specs.NameTable.{look}
 use Rattle.ax_lines.specs.declared.statement.Line.{Line}
 use Rattle.ax_scope.specs.Answers.{first_fault}
 use Rattle.ax_scope.specs.Faults.{faults_from}
 use Rattle.ax_scope.specs.Module.{functions_in}
+use Rattle.ax_scope.proofs.Counts.{few_left, few_first}
 use Rattle.ax_scope.proofs.Whole.{begins, more, errs, front_is, tail}
 use Rattle.ax_scope.proofs.module.functions_in.Goals as goal
 
@@ -26,5 +27,9 @@ loop-rest-preserved c =
       found = ap (λ (ls : List Line). first_fault (c.loop-rest.number + 1 + c.in_ok-inside.inside) (faults_from c.args.text.now (look c.args.globals.now) c.enter_at.new.names None ls)) back
           ∙ sym (takes.2 c.enter_at.new.names)
           ∙ begins c.args.text.now (look c.args.globals.now) c.loop-rest.names c.enter_at.new.names c.loop-rest.rest.now c.line-item.result c.loop-rest.number _ c.in-len1-up.len_at_least c.line-item.is c.loop-rest.invariant.found entered.0 entered.1;
+      few = few_left c.loop-rest.rest.now c.in_ok-inside.inside c.split_at.result.1.now back c.loop-rest.invariant.few;
       counts = omega (arith, c.split_at.ensures.back_len, behind);
     }
+
+pub function_in-requires-clause-few_params : goal.function_in-requires-clause-few_params
+function_in-requires-clause-few_params c = few_first c.loop-rest.rest.now c.line-item.result c.in-len1-up.len_at_least c.line-item.is c.loop-rest.invariant.few

@@ -1,5 +1,5 @@
 use Rattle.ax_typed.proofs.Runs.{event_typed, run_typed, start_typed}
-use Rattle.ax_layout.specs.SourceRun.{source_start}
+use Rattle.ax_source_run.specs.SourceRun.{source_start}
 use Rattle.ax_typed.proofs.laws.numbers_are_typed.Goals as goal
 
 pub returns-clause-start : goal.returns-clause-start

@@ -1,6 +1,6 @@
 use Rattle.std.proofs.Common.{map, sym, ap, ◌∙◌, subst}
 use Rattle.std.specs.Prelude.{All}
-use Rattle.ax_ir.specs.Names.{IsAscii}
+use Rattle.ax_module.specs.Names.{IsAscii}
 use Rattle.ax_app.proofs.places.Names.of.Goals as goal
 
 pub returns : goal.returns

@@ -1,6 +1,6 @@
 use Rattle.std.proofs.Common.{ℕ, List, ◌<◌, ap, ◌∙◌, sym, subst}
 use Rattle.std.specs.Prelude.{slice_index}
-use Rattle.ax_layout.specs.SourceAccess.{element_set}
+use Rattle.ax_source_run.specs.SourceAccess.{element_set}
 use Rattle.ax_cells.specs.NewestStores.{counts_of, place_in}
 use Rattle.ax_cells.proofs.NewestStores.{places_set}
 use Rattle.ax_cells.proofs.newest_stores.NewestStores.set.Goals as goal

@@ -1,5 +1,5 @@
 use Rattle.std.proofs.Common.{ap, ◌∙◌, sym}
-use Rattle.ax_layout.specs.SourceAccess.{newest}
+use Rattle.ax_source_run.specs.SourceAccess.{newest}
 use Rattle.ax_cells.specs.PendingState.{PendingState}
 use Rattle.ax_cells.proofs.NewestStores.{newest_past}
 use Rattle.ax_cells.proofs.pending.Pending.newest.Goals as goal

@@ -1,6 +1,6 @@
 use Rattle.std.proofs.Common.{◌≡◌, ℕ, ◌<◌, ◌++◌, false, List, [], ◌∷◌, length, take, ap, sym, ◌∙◌, append_assoc, slice_index_or, arith}
-use Rattle.ax_isa.specs.declared.events.Event.{Event}
-use Rattle.ax_isa.specs.declared.events.Event.TheVariants.{Step}
+use Rattle.ax_words.specs.declared.event.Event.{Event}
+use Rattle.ax_words.specs.declared.event.Event.TheVariants.{Step}
 use Rattle.ax_sched.specs.Events.{item_events}
 use Rattle.ax_sched.specs.Plan.{times_of}
 use Rattle.ax_sched.proofs.EventsLemmas.{events_more, events_all}

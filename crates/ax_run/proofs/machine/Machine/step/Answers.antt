@@ -7,10 +7,10 @@ pub returns-then-is_running-clause-tells : goal.returns-then-is_running-clause-t
 returns-then-is_running-clause-tells c =
     λ start told.
     let r = c.args.self.now in
-    let ready = c.tag-tag.ensures.ready in
+    let ready = c.advance-shown.ensures.ready in
     let known = c.requires.processor in
     let cells : c.args.p < length r.retired = omega (arith, known, ready.few, ready.cells) in
-    count_tells start r c.args.p known told c.count.new.self c.advance-outcome.new.self c.advance-outcome.result c.tag-tag.result cells c.advance-outcome.ensures c.tag-tag.ensures.tag (c.if-is_running.ensures.0 refl) c.count.ensures
+    count_tells start r c.args.p known told c.count.new.self c.advance-shown.new.self c.advance-shown.result cells c.advance-shown.ensures.advanced (c.if-is_running.ensures.0 refl) c.count.ensures
 
 pub returns-else-is_running-clause-tells : goal.returns-else-is_running-clause-tells
 returns-else-is_running-clause-tells c =

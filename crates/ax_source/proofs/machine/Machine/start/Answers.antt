@@ -1,7 +1,7 @@
 use Rattle.std.proofs.Common.{List, map, sym, ap, ◌∙◌, subst, arith}
-use Rattle.ax_ir.specs.declared.module.Global.{Global}
-use Rattle.ax_ir.specs.declared.module.Module.{Module}
-use Rattle.ax_layout.specs.SourceState.{SourceState}
+use Rattle.ax_module.specs.declared.module.Global.{Global}
+use Rattle.ax_module.specs.declared.module.Module.{Module}
+use Rattle.ax_source_run.specs.SourceState.{SourceState}
 use Rattle.ax_cells.specs.Memories.{initial_array}
 use Rattle.ax_source.proofs.Begins.{started, whole}
 use Rattle.ax_typed.specs.Typed.{IsTyped}

@@ -1,7 +1,7 @@
 use Rattle.std.proofs.Common.{◌≡◌, ◌<◌, ◌≤◌, length, sym, ap, ◌∙◌, subst, arith}
 use Rattle.std.specs.Prelude.{slice_index_or, slice_set}
-use Rattle.ax_layout.specs.SourceEvent.{source_event}
-use Rattle.ax_layout.specs.SourceState.{SourceState}
+use Rattle.ax_source_run.specs.SourceEvent.{source_event}
+use Rattle.ax_source_run.specs.SourceState.{SourceState}
 use Rattle.ax_source.specs.MachineState.{MachineState, processors_of, state_of}
 use Rattle.ax_cells.specs.Shapes.{cells_of}
 use Rattle.ax_source.proofs.Events.{happened}

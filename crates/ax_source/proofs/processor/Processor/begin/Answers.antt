@@ -1,9 +1,9 @@
 use Rattle.std.proofs.Common.{List, [], length, map, replicate, ap, ◌∙◌, sym, subst}
 use Rattle.std.specs.List.{flat_map}
 use Rattle.std.proofs.lemmas.List.{length-map}
-use Rattle.ax_ir.specs.declared.module.Block.{Block}
-use Rattle.ax_ir.specs.declared.module.Module.{Module}
-use Rattle.ax_layout.specs.SourcePointers.{blocks_of, insts_of}
+use Rattle.ax_module.specs.declared.module.Block.{Block}
+use Rattle.ax_module.specs.declared.module.Module.{Module}
+use Rattle.ax_source_run.specs.SourcePointers.{blocks_of, insts_of}
 use Rattle.ax_cells.specs.declared.value.Value.TheVariants as value
 use Rattle.ax_source.specs.Beginnings.{begun}
 use Rattle.ax_cells.specs.Memories.{starts_from, zeros_of}

@@ -1,5 +1,5 @@
 use Rattle.std.proofs.Common.{◌≤◌, ℕ, sym, ap, ◌∙◌, subst}
-use Rattle.ax_layout.specs.SourceValues.{type_bits}
+use Rattle.ax_source_run.specs.SourceValues.{type_bits}
 use Rattle.ax_cells.specs.Values.{object_of}
 use Rattle.ax_source.proofs.Narrow.{elem_bits}
 use Rattle.ax_source.proofs.processor.Processor.bits_of.Goals as goal

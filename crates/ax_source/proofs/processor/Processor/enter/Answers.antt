@@ -1,8 +1,8 @@
 use Rattle.std.proofs.Common.{◌≤◌, IsTrue, List, ap, sym, ◌∙◌, subst}
 use Rattle.std.specs.List.{list_all}
-use Rattle.ax_ir.specs.declared.inst.Inst.{Inst}
-use Rattle.ax_ir.specs.declared.module.Block.{Block}
-use Rattle.ax_layout.specs.SourceInstructions.{insts_of_block, phi_count}
+use Rattle.ax_module.specs.declared.inst.Inst.{Inst}
+use Rattle.ax_module.specs.declared.module.Block.{Block}
+use Rattle.ax_source_run.specs.SourceInstructions.{insts_of_block, phi_count}
 use Rattle.ax_source.specs.Runnable.{is_narrow_inst}
 use Rattle.ax_source.proofs.Narrow.{block_narrow}
 use Rattle.ax_source.proofs.processor.Processor.enter.Goals as goal

@@ -1,5 +1,5 @@
 use Rattle.std.proofs.Common.{◌≡◌, drop}
-use Rattle.ax_layout.specs.SourceInstructions.{incoming}
+use Rattle.ax_source_run.specs.SourceInstructions.{incoming}
 use Rattle.ax_source.specs.ProcessorState.{state_of}
 use Rattle.ax_source.proofs.processor.Processor.incoming.Given as goal
 

@@ -1,7 +1,7 @@
 use Rattle.std.proofs.Common.{ℕ, ◌≤◌, sym, ap, ◌∙◌, subst}
-use Rattle.ax_ir.specs.Types.{type_bytes}
+use Rattle.ax_module.specs.Types.{type_bytes}
 use Rattle.ax_layout.specs.Layout.{HasElement, LayoutState}
-use Rattle.ax_layout.specs.SourceState.{SourceProgram}
+use Rattle.ax_source_run.specs.SourceState.{SourceProgram}
 use Rattle.ax_source.proofs.Natives.{has_place, native_is}
 use Rattle.ax_source.proofs.processor.Processor.is_native.Goals as goal
 

@@ -1,5 +1,5 @@
 use Rattle.std.proofs.Common.{◌≡◌, length, ap, subst, arith}
-use Rattle.ax_layout.specs.SourcePointers.{blocks_of}
+use Rattle.ax_source_run.specs.SourcePointers.{blocks_of}
 use Rattle.ax_source.specs.ProcessorState.{ProcessorState, IsSound, state_of}
 use Rattle.ax_source.proofs.Blocks.{fits}
 use Rattle.ax_source.proofs.processor.Processor.move_to.Goals as goal

@@ -1,6 +1,6 @@
 use Rattle.std.proofs.Common.{◌≡◌, ℕ, ◌+◌, List, sym, ap, ◌∙◌, subst, arith}
-use Rattle.ax_layout.specs.SourceEvent.{number_of_next}
-use Rattle.ax_layout.specs.SourcePointers.{blocks_of}
+use Rattle.ax_source_run.specs.SourceEvent.{number_of_next}
+use Rattle.ax_source_run.specs.SourcePointers.{blocks_of}
 use Rattle.ax_source.specs.ProcessorState.{ProcessorState, IsSound, Stands, state_of}
 use Rattle.ax_cells.specs.Memories.{starts_from}
 use Rattle.ax_source.proofs.Places.{block_within, number_is, stands_at}

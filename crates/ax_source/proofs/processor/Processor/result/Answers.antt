@@ -1,6 +1,6 @@
 use Rattle.std.proofs.Common.{◌∙◌, ap, sym, subst, IsTrue, List}
-use Rattle.ax_ir.specs.declared.operand.Arg.{Arg}
-use Rattle.ax_ops.specs.Routine.{routine_named}
+use Rattle.ax_module.specs.declared.operand.Arg.{Arg}
+use Rattle.ax_words.specs.Routine.{routine_named}
 use Rattle.ax_source.specs.Calls.{routine_has_pointers}
 use Rattle.ax_source.specs.Instructions.{any_outside}
 use Rattle.ax_source.proofs.Inside.{call_inside, call_pointers}

@@ -1,6 +1,6 @@
 use Rattle.std.proofs.Common.{◌≡◌, ◌∙◌, ap, sym, subst, true, IsTrue}
-use Rattle.ax_layout.specs.SourceState.{Pointer}
-use Rattle.ax_ops.specs.Routine.{routine_named}
+use Rattle.ax_source_run.specs.SourceState.{Pointer}
+use Rattle.ax_words.specs.Routine.{routine_named}
 use Rattle.ax_source.specs.Accesses.{is_element_of}
 use Rattle.ax_source.specs.Calls.{is_pointer_at}
 use Rattle.ax_source.proofs.Inside.{lock_free_pointer, pointer_inside}

@@ -1,0 +1,5 @@
+pub mod Alignment
+pub mod Allocas
+pub mod Mixed
+pub mod Orders
+pub mod RulesAtPoints

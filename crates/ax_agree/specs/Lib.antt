@@ -1,0 +1,5 @@
+pub mod Library
+pub mod Agree
+pub mod Lowers
+pub mod Rows
+pub mod Sound

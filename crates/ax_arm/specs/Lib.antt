@@ -1,0 +1,4 @@
+pub mod Effects
+pub mod Skeletons
+pub mod Instructions
+pub mod Laws

@@ -1,0 +1,4 @@
+pub mod Quiet
+pub mod Flat
+pub mod Runs
+pub mod Follow

@@ -1,0 +1,2 @@
+pub mod Contract
+pub mod RunTheorem

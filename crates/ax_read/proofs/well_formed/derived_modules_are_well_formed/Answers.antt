@@ -1,5 +1,0 @@
-use Rattle.ax_read.proofs.Formed.{derived_module}
-use Rattle.ax_read.proofs.well_formed.derived_modules_are_well_formed.Goals as goal
-
-pub returns : goal.returns
-returns c = λ text m d. derived_module text m d

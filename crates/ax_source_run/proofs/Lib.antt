@@ -1,0 +1,5 @@
+mod SourceExamples
+mod SourceModules
+mod SourceObjects
+mod SourceSteps
+mod SourceUnbuffered

@@ -1,0 +1,9 @@
+pub mod SourceAccess
+pub mod SourceCalls
+pub mod SourceEvent
+pub mod SourceInstructions
+pub mod SourceLaws
+pub mod SourcePointers
+pub mod SourceRun
+pub mod SourceState
+pub mod SourceValues

@@ -1,0 +1,4 @@
+pub mod Orders
+pub mod Owned
+pub mod Moved
+pub mod Walked

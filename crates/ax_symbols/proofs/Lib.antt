@@ -1,0 +1,6 @@
+pub mod SymbolLemmas
+pub mod SameSign
+pub mod Passing
+pub mod Closing
+pub mod Exact
+pub mod Commas

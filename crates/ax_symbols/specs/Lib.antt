@@ -1,0 +1,5 @@
+pub mod Signs
+pub mod Symbols
+pub mod Pieces
+pub mod Vectors
+pub mod Grammar

@@ -1,0 +1,4 @@
+pub mod Width
+pub mod Orders
+pub mod Operation
+pub mod Routine
