@@ -4,7 +4,8 @@ of its edits (with the check that they begin with), and the minutes on the clock
 
     bench/gate.py [--anew]        runs `rt ci` at the top of the checkout and prints the table
 
-The processors' times are those of the prover's processes under the run, looked at twice a second.
+The processors' times are those of the prover's processes under the run and of all below them, looked
+at twice a second, so a process that lives for less may be missed.
 """
 import os
 import subprocess
@@ -34,14 +35,16 @@ def processes():
 def sample(top, root, seconds, kinds):
     """Notes the seconds of each prover's process below the run."""
     found = {pid: rest for pid, *rest in processes()}
-    for pid, (parent, words, folder, used) in found.items():
-        if "--crate-name" not in words:
-            continue
-        above = parent
+    for pid, (_, _, _, used) in found.items():
+        # a kernel's process counts for the prover's above it, which names the crate
+        prover, above = None, pid
         while above in found and above != top:
+            if prover is None and "--crate-name" in found[above][1]:
+                prover = above
             above = found[above][0]
-        if above != top:
+        if above != top or prover is None:
             continue
+        _, words, folder, _ = found[prover]
         crate = words[words.index("--crate-name") + 1]
         own = folder.startswith(f"{root}/crates/")
         kind = "edits" if not own else "tests" if "--test" in words else "proof"
