@@ -9,6 +9,7 @@ ghost use Rattle.ax_app.specs.Serve.{IsTextOf};
 use crate::built::Built;
 use crate::report::push_report;
 use crate::verdict::Verdict;
+use ax_agree::function_names_are_names;
 use ax_first::FirstModule;
 use ax_lower::{lower, runs_begin_alike};
 use ax_module::names_are_ascii;
@@ -24,6 +25,7 @@ fn text_of(alloc: Global, built: Built, plan: &Plan) -> Result<String, AllocErro
 {
     runs_begin_alike();
     names_are_ascii();
+    function_names_are_names();
     let Built { accepted: _, first } = built;
     let FirstModule {
         globals,

@@ -1,5 +1,5 @@
 -- *AArch64 instructions*: the one effect of each instruction, as a function of the registers (Arm Architecture Reference Manual for A-profile, A64 base instructions and FEAT_LSE). Numbers wrap at 2 ^ 64.
-use Rattle.std.specs.Prelude.{ℕ, ◌+◌, ◌-◌, ◌*◌, ◌/◌, ◌%◌, ◌^◌, ℤ, pos, negsuc, Bool, true, false, not, if◌then◌else◌, nat_eq, nat_lt, nat_le, int_lt, int_le, bit_and, bit_or, bit_xor}
+use Rattle.std.specs.Prelude.{ℕ, ◌+◌, ◌-◌, ◌*◌, ◌/◌, ◌%◌, ◌^◌, ℤ, Bool, true, false, not, if◌then◌else◌, nat_eq, nat_lt, nat_le, int_lt, int_le, bit_and, bit_or, bit_xor}
 use Rattle.std.specs.Int.{cast_signed, cast_unsigned, int_shr, w8, w16, w32, w64}
 use Rattle.ax_words.specs.declared.operation.RmwOp.{RmwOp}
 use Rattle.ax_words.specs.declared.operation.RmwOp.TheVariants as rmw
@@ -9,6 +9,7 @@ use Rattle.ax_isa.specs.declared.effects.Effect.{Effect}
 use Rattle.ax_isa.specs.declared.effects.Effect.TheVariants as effect
 use Rattle.ax_isa.specs.declared.effects.Rest.TheVariants.{Zeros}
 use Rattle.ax_isa.specs.declared.effects.Saved.TheVariants.{Register}
+use Rattle.ax_isa.specs.Numbers.{displaced}
 use Rattle.ax_isa.specs.Processor.{Processor}
 use Rattle.ax_arm.specs.declared.instructions.Alu.{Alu}
 use Rattle.ax_arm.specs.declared.instructions.Alu.TheVariants as alu
@@ -68,13 +69,8 @@ holds conditions.Gt p = int_lt (cast_signed w64 p.1) (cast_signed w64 p.0)
 abbrev pub moved : ℕ → ℕ → ℕ
 moved a d = (a + d) % 2 ^ 64
 
--- the place at a distance; one before place 0 is no place
-abbrev pub jump_target : ℕ → ℤ → ℕ
-jump_target place (pos d) = (place + d) % 2 ^ 64
-jump_target place (negsuc d) = (place + (2 ^ 64 - 1 - d)) % 2 ^ 64
-
 abbrev pub jump_if : Bool → ℕ → ℤ → Effect
-jump_if true place d = effect.Jump (jump_target place d)
+jump_if true place d = effect.Jump (displaced place d)
 jump_if false place d = effect.Nop
 
 -- the 16 bytes of two registers, low first
@@ -140,7 +136,7 @@ effect_of (arm.Lse op ending size rs rt rn) c = effect.Locked rt 0 (c.regs rn) (
 effect_of (arm.Cas ending size rs rt rn) c = effect.Locked rs 0 (c.regs rn) (bytes_of size) Zeros (Exchange (c.regs rs) (c.regs rt) false)
 effect_of (arm.Casp ending rs rt rn) c = locked_pair rs rt (c.regs rn) c.regs
 effect_of (arm.Dmb barrier) c = effect.Nop
-effect_of (arm.B d) c = effect.Jump (jump_target c.place d)
+effect_of (arm.B d) c = effect.Jump (displaced c.place d)
 effect_of (arm.BCond condition d) c = jump_if (holds condition c.compared) c.place d
 effect_of (arm.Cbz rt d) c = jump_if (nat_eq (c.regs rt) 0) c.place d
 effect_of (arm.Cbnz rt d) c = jump_if (not (nat_eq (c.regs rt) 0)) c.place d

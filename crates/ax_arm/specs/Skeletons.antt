@@ -1,12 +1,12 @@
 -- The skeleton of AArch64 code: its memory, fence and call instructions in order, with sizes and marks, without those whose base is one of some registers.
-use Rattle.std.specs.Prelude.{ℕ, Bool, if◌then◌else◌, nat_eq, List, [], ◌∷◌, flat_map}
-use Rattle.std.specs.List.{list_any}
+use Rattle.std.specs.Prelude.{ℕ, Bool, List, [], ◌∷◌, flat_map}
 use Rattle.ax_words.specs.declared.mark.FenceCode.{FenceCode}
 use Rattle.ax_words.specs.declared.mark.FenceCode.TheVariants.{DmbIsh, DmbIshld}
 use Rattle.ax_words.specs.declared.mark.Mark.{Mark}
 use Rattle.ax_words.specs.declared.mark.Mark.TheVariants as mark
 use Rattle.ax_words.specs.declared.mark.MarkCode.{MarkCode}
 use Rattle.ax_words.specs.declared.mark.MarkCode.TheVariants as code
+use Rattle.ax_isa.specs.Marks.{access_marks}
 use Rattle.ax_arm.specs.declared.instructions.ArmInstr.{ArmInstr}
 use Rattle.ax_arm.specs.declared.instructions.ArmInstr.TheVariants as arm
 use Rattle.ax_arm.specs.declared.instructions.Barrier.{Barrier}
@@ -45,10 +45,6 @@ abbrev pub fence_code : Barrier → FenceCode
 fence_code barriers.Ish = DmbIsh
 fence_code barriers.Ishld = DmbIshld
 
--- an access has no mark where its base is left out
-abbrev pub access_marks : (ℕ → Bool) → ℕ → MarkCode → ℕ → List Mark
-access_marks skip base access bytes = if skip base then [] else mark.Memory access bytes ∷ []
-
 -- `skip`: the registers whose accesses are left out
 unfoldable pub mark_of : (ℕ → Bool) → ArmInstr → List Mark
 mark_of skip (arm.Ldr size rt rn d) = access_marks skip rn code.Ldr (bytes_of size)
@@ -69,10 +65,6 @@ mark_of skip (arm.Casp ending rs rt rn) = access_marks skip rn (casp_code ending
 mark_of skip (arm.Dmb barrier) = mark.Fence (fence_code barrier) ∷ []
 mark_of skip (arm.Bl routine place) = mark.Call routine ∷ []
 mark_of skip _ = []
-
--- is a register one of some?
-abbrev pub is_among : List ℕ → ℕ → Bool
-is_among registers r = list_any (λ x. nat_eq x r) registers
 
 abbrev pub skeleton : (ℕ → Bool) → List ArmInstr → List Mark
 skeleton skip instructions = flat_map (mark_of skip) instructions

@@ -2,10 +2,10 @@
 
 ghost use Rattle.std.specs.Prelude.{◌≡◌, ◌<◌, false, if◌then◌else◌};
 ghost use Rattle.ax_isa.specs.Processor.{processor_of};
-ghost use Rattle.ax_arm.specs.Effects.{bytes_of, combined, effect_of, extended, holds, jump_if, linked_pair, locked_pair, moved, next_register, operand_of, operation_of, pair_of, shifted, jump_target};
+ghost use Rattle.ax_arm.specs.Effects.{bytes_of, combined, effect_of, extended, holds, jump_if, linked_pair, locked_pair, moved, next_register, operand_of, operation_of, pair_of, shifted};
 
 use crate::instructions::{Alu, ArmInstr, Condition, Extension, Lse, Shift, Size};
-use ax_isa::{Back, Change, Cpu, Effect, Rest, Saved};
+use ax_isa::{Back, Change, Cpu, Effect, Rest, Saved, displaced};
 use ax_words::RmwOp;
 
 /// A register's number.
@@ -91,19 +91,12 @@ fn moved(a: u64, d: u16) -> u64
     a.wrapping_add(d as u64)
 }
 
-/// The place at a distance from another, as a jump counts it. One before place 0 is no place.
-pub fn jump_target(place: u64, d: i32) -> u64
-    ensures { result ≡ jump_target place d }
-{
-    place.wrapping_add_signed(d as i64)
-}
-
 fn jump_if(jumps: bool, place: u32, d: i32) -> Effect
     ensures { result ≡ jump_if jumps place d }
 {
     if jumps {
         Effect::Jump {
-            place: jump_target(place as u64, d),
+            place: displaced(place as u64, d as i64),
         }
     } else {
         Effect::Nop

@@ -1,5 +1,6 @@
 //! AArch64 as an instruction set of the machine.
 
+ghost use Rattle.std.specs.Prelude.{true, false};
 ghost use Rattle.std.proofs.Common.{refl};
 ghost use Rattle.std.proofs.lemmas.Bool.{false≢true};
 ghost use Rattle.ax_arm.specs.Laws.{effects_fit};
@@ -20,6 +21,10 @@ impl Isa for Arm {
 
     const PAIRS: bool = true;
 
+    ghost BUFFERED = { false };
+
+    ghost PAIRS = { true };
+
     ghost kind = { arm_kind };
 
     ghost valid = { IsInstr };
@@ -27,6 +32,10 @@ impl Isa for Arm {
     fn effect(i: &ArmInstr, cpu: &Cpu) -> Effect {
         effect_of(i, cpu)
     }
+
+    ghost buffered_of_kind = { refl };
+
+    ghost pairs_of_kind = { refl };
 
     ghost apart = { λ b. absurd (false≢true b) };
 

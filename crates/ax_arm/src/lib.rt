@@ -7,7 +7,7 @@ mod instructions;
 mod isa;
 mod skeletons;
 
-pub use effects::{jump_target, next_register};
+pub use effects::next_register;
 pub use instructions::{Alu, ArmInstr, Barrier, Condition, Ending, Extension, Lse, Shift, Size};
 pub use isa::Arm;
 pub use skeletons::skeleton;

@@ -1,11 +1,12 @@
 //! The skeletons of AArch64 code.
 
 ghost use Rattle.std.specs.Prelude.{◌≡◌, IfOk, option_to_list};
-ghost use Rattle.ax_arm.specs.Effects.{bytes_of};
-ghost use Rattle.ax_arm.specs.Skeletons.{access_marks, cas_code, casp_code, fence_code, is_among, lse_code, mark_of, skeleton, with_ending};
+ghost use Rattle.ax_isa.specs.Marks.{is_among};
+ghost use Rattle.ax_arm.specs.Skeletons.{cas_code, casp_code, fence_code, lse_code, mark_of, skeleton, with_ending};
 
 use crate::effects::bytes_of;
 use crate::instructions::{ArmInstr, Barrier, Ending, Lse};
+use ax_isa::access_mark;
 use ax_words::MarkCode::*;
 use ax_words::{FenceCode, Mark, MarkCode};
 use std::alloc::{AllocError, Global};
@@ -58,17 +59,6 @@ fn mark_of(i: &ArmInstr, skip: &[u8]) -> Option<Mark>
         ArmInstr::Dmb(barrier) => Some(Mark::Fence(fence_code(barrier))),
         ArmInstr::Bl { routine, .. } => Some(Mark::Call(routine)),
         _ => None,
-    }
-}
-
-/// The mark of an access, which has none where its base is left out.
-fn access_mark(skip: &[u8], base: u8, code: MarkCode, bytes: u8) -> Option<Mark>
-    ensures { option_to_list result ≡ access_marks (is_among skip.now) base code bytes }
-{
-    if skip.contains(&base) {
-        None
-    } else {
-        Some(Mark::Memory { code, bytes })
     }
 }
 

@@ -7,7 +7,8 @@ use Rattle.ax_arm.specs.declared.instructions.Ending.{Ending}
 use Rattle.ax_arm.specs.declared.instructions.Extension.{Extension}
 use Rattle.ax_arm.specs.declared.instructions.Extension.TheVariants as extension
 use Rattle.ax_arm.specs.declared.instructions.Size.{Size}
-use Rattle.ax_arm.specs.Effects.{jump_target, next_register}
+use Rattle.ax_isa.specs.Numbers.{displaced}
+use Rattle.ax_arm.specs.Effects.{next_register}
 use Rattle.ax_arm_text.specs.Registers.{register_of, w_name, x_name}
 use Rattle.ax_arm_text.specs.Words.{alu_text, barrier_text, condition_text, ending_text, extension_text, lse_text, shift_text, size_text}
 
@@ -41,7 +42,7 @@ casp_text ending rs rt rn = codes "casp" ++ three (ending_text ending) (x_name r
 
 -- the label of the place that a jump at `place` leads to
 abbrev pub label_text : ℕ → ℤ → List ℕ
-label_text place d = codes ".L" ++ decimal (jump_target place d)
+label_text place d = codes ".L" ++ decimal (displaced place d)
 
 -- THE TEXT of an instruction at a place
 unfoldable pub instr_text : ℕ → ArmInstr → List ℕ

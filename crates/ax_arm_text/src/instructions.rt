@@ -11,7 +11,8 @@ use crate::words::{
     alu_word, barrier_word, condition_word, ending_word, extension_word, lse_word, shift_word,
     size_word,
 };
-use ax_arm::{ArmInstr, Condition, Ending, Extension, Shift, Size, jump_target, next_register};
+use ax_arm::{ArmInstr, Condition, Ending, Extension, Shift, Size, next_register};
+use ax_isa::displaced;
 use std::alloc::AllocError;
 
 /// Appends the text of the instruction at a place. A jump names the label of the place that it
@@ -217,7 +218,7 @@ fn push_casp(out: &mut String, ending: Ending, rs: u8, rt: u8, rn: u8) -> Result
 fn push_jump(out: &mut String, place: usize, d: i32) -> Result<(), AllocError>
     ensures { OnOk result (string_bytes out.new ≡ string_bytes out.old ++ one (codes "b") (label_text place d)) }
 {
-    let target = jump_target(place as u64, d);
+    let target = displaced(place as u64, d as i64);
     write!(out, "b .L{target}")
 }
 
@@ -231,7 +232,7 @@ fn push_jump_on(
     ensures { OnOk result (string_bytes out.new ≡ string_bytes out.old ++ one (codes "b." ++ condition_text condition) (label_text place d)) }
 {
     let condition = condition_word(condition);
-    let target = jump_target(place as u64, d);
+    let target = displaced(place as u64, d as i64);
     write!(out, "b.{condition} .L{target}")
 }
 
@@ -246,6 +247,6 @@ fn push_jump_by(
     ensures { OnOk result (string_bytes out.new ≡ string_bytes out.old ++ two word.now (x_name rt) (label_text place d)) }
 {
     let rt = x_name(rt);
-    let target = jump_target(place as u64, d);
+    let target = displaced(place as u64, d as i64);
     write!(out, "{word} {rt}, .L{target}")
 }

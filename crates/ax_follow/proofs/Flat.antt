@@ -10,7 +10,7 @@ use Rattle.ax_isa.specs.declared.effects.Outcome.{Outcome}
 use Rattle.ax_tags.specs.declared.tags.Tag.{Tag}
 use Rattle.ax_isa.specs.Past.{Noted, drain, drain_first, drain_list}
 use Rattle.ax_isa.specs.Processor.{Processor}
-use Rattle.ax_isa.specs.Run.{Setting, Machine, after_step, done, drain_events, events_if, events_of, explain, explained, first_drain, flushing, gives, happens, idle_if, idle_next, idle_run, ready, sent, step, step_if, with_noted}
+use Rattle.ax_isa.specs.Run.{Setting, Machine, drain_events, events_if, events_of, explain, explained, first_drain, flushing, gives, happens, idle_if, idle_next, idle_run, ready, sent, step, step_if, with_noted}
 use Rattle.ax_isa.specs.Steps.{waits}
 use Rattle.ax_isa.specs.Tells.{Given}
 use Rattle.ax_follow.proofs.Quiet.{step_flat, step_quiet}

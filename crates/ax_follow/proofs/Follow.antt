@@ -87,7 +87,7 @@ module _ {I P W : Type 0} (x : Setting I) (l : Meaning P W) (v : Reading) where
   -- the contract of one instruction's code
   pub record FollowsAt (number : ℕ) : Type 0 where
     pub follows :
-        (p : ℕ) (s : P) (c : Processor) (n : Noted) (w : W) → l.number s ≡ number → l.status s ≡ Runs → c.place ≡ l.begins s → l.matches p c n s → l.sees n w → l.fits s w
+        (p : ℕ) (s : P) (c : Processor) (n : Noted) (w : W) → l.number s ≡ number → l.status s ≡ Runs → c.place ≡ l.begins s → l.matches p c n s → l.sees n w → l.fits p s w
         → (hs : List Happening) → InStep l v x p hs stage_start s c n
 
   pub follows_all : ((number : ℕ) → FollowsAt number) → Follows l v x

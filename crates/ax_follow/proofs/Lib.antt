@@ -1,3 +1,4 @@
+pub mod Bounds
 pub mod Quiet
 pub mod Flat
 pub mod Runs

@@ -21,6 +21,8 @@ use Rattle.ax_isa.specs.Run.{Setting, Machine, outputs_of, after_step, with_note
 use Rattle.ax_follow.specs.Contract.{Did, Meaning, Reading, machine_status, Fair, ByOthers, ByOwn, Happening, Own, Drained, Other, done_after, Stage, stage_start, stage_after, Possible, outcome_of, OwnStep, Steppable, InStep, Follows, Lawful, Whole, after_did, meant_if, meant, meant_run, gives_of, source_if, source_of, source_events, above_by, above_if, above_next, above_run}
 use Rattle.ax_follow.specs.RunTheorem.{Begins, Agreed, Made, AllFit, meant_after, RunsInStep}
 use Rattle.ax_isa.proofs.Functions.{at_same, at_other}
+use Rattle.ax_follow.specs.Bounds.{AllInBounds}
+use Rattle.ax_follow.proofs.Bounds.{bounds_drain, bounds_step}
 use Rattle.ax_follow.proofs.Quiet.{step_quiet, step_flat, others_from, by_drain, by_drop}
 
 pub meant_run-append : {P W : Type 0} (l : Meaning P W) (es fs : List SourceEvent) (s : Whole P W) → meant_run l (es ++ fs) s ≡ meant_run l fs (meant_run l es s)
@@ -202,6 +204,7 @@ module _ {I P W : Type 0} (x : Setting I) (l : Meaning P W) (v : Reading) where
       outputs : m.outputs ≡ s.outputs
       -- this state is one of a run
       reached : (es : List SourceEvent) × (meant_run l es s0 ≡ s)
+      words : v.words ≡ true → AllInBounds m
 
     further : (es : List SourceEvent) (s : Whole P W) → (fs : List SourceEvent) × (meant_run l fs s0 ≡ s) → (fs : List SourceEvent) × (meant_run l fs s0 ≡ meant_run l es s)
     further es s r = (r.0 ++ es, meant_run-append l r.0 es s0 ∙ ap (meant_run l es) r.1)
@@ -224,7 +227,7 @@ module _ {I P W : Type 0} (x : Setting I) (l : Meaning P W) (v : Reading) where
     fair_others : (q : ℕ) (old new : Noted) → ByOthers q old new → Fair q (old.storage.waiting q) → Fair q (new.storage.waiting q)
     fair_others q old new b f = subst (λ es. Fair q es) (sym b.waiting) f
 
-    module _ (all : Follows l v x) (law : Lawful l v x) (fits : (es : List SourceEvent) (p : ℕ) → l.status ((meant_run l es s0).processors p) ≡ Runs → l.fits ((meant_run l es s0).processors p) (meant_run l es s0).world) where
+    module _ (all : Follows l v x) (law : Lawful l v x) (fits : (es : List SourceEvent) (p : ℕ) → l.status ((meant_run l es s0).processors p) ≡ Runs → l.fits p ((meant_run l es s0).processors p) (meant_run l es s0).world) where
       drop_related : (m : Machine) (s : Whole P W) (g h : ℕ → ℕ) → Related m s g h → (p : ℕ) → Related (with_noted (drop_link p m.noted) m) s g h
       drop_related m s g h r p =
           record {
@@ -235,6 +238,7 @@ module _ {I P W : Type 0} (x : Setting I) (l : Meaning P W) (v : Reading) where
             sees = law.dropped p m.noted s.world r.sees;
             outputs = r.outputs;
             reached = r.reached;
+            words = λ e. record { regs = (r.words e).regs; bytes = (r.words e).bytes };
           }
 
       -- only a buffered machine has stores that wait
@@ -276,6 +280,7 @@ module _ {I P W : Type 0} (x : Setting I) (l : Meaning P W) (v : Reading) where
                 sees = (law.drains (on m s g h r p e es is) p m.noted s.world e es is (subst (λ ys. Fair p ys) is (r.fair p)).0 c r.sees).0;
                 outputs = r.outputs;
                 reached = further (Drains p ∷ []) s r.reached;
+                words = λ f. bounds_drain p m (r.words f);
               }
           counted e es is false c =
               record {
@@ -286,6 +291,7 @@ module _ {I P W : Type 0} (x : Setting I) (l : Meaning P W) (v : Reading) where
                 sees = (law.hides (on m s g h r p e es is) p m.noted s.world e es is (subst (λ ys. Fair p ys) is (r.fair p)).0 c r.sees).0;
                 outputs = r.outputs;
                 reached = r.reached;
+                words = λ f. bounds_drain p m (r.words f);
               }
 
           go : (es : List Entry) → m.noted.storage.waiting p ≡ es → Related (with_noted (drain p m.noted) m) (meant_run l (first_drain v.counts p es) s) g h
@@ -299,12 +305,12 @@ module _ {I P W : Type 0} (x : Setting I) (l : Meaning P W) (v : Reading) where
           let one : Related (with_noted (drain p m.noted) m) (meant_run l (drain_event v.counts p e) s) g h = subst (λ ys. Related (with_noted (drain p m.noted) m) (meant_run l (first_drain v.counts p ys) s) g h) is (drain_related m s g h r p) in
           subst (λ y. Related (with_noted (drain_list (e ∷ es) p m.noted) m) y g h) (sym (meant_run-append l (drain_event v.counts p e) (drain_events v.counts p es) s)) (drains_related es p (with_noted (drain p m.noted) m) _ g h (drained_waiting p e es m.noted is) one)
 
-      begin : (p : ℕ) (c : Processor) (n : Noted) (s : P) (w : W) (g h : ℕ) → g ≤ v.most → l.status s ≡ Runs → c.place ≡ l.begins s → l.matches p c n s → l.sees n w → l.fits s w → Inside p c n s g h
+      begin : (p : ℕ) (c : Processor) (n : Noted) (s : P) (w : W) (g h : ℕ) → g ≤ v.most → l.status s ≡ Runs → c.place ≡ l.begins s → l.matches p c n s → l.sees n w → l.fits p s w → Inside p c n s g h
       begin p c n s w g h few runs at matches sees fit =
           record { stage = stage_start; small = omega arith; count = omega (arith, few); since = λ e. absurd (false≢true e); rested = λ e. absurd (false≢true e); follows = all.follows p s c n w runs at matches sees fit }
 
       -- where the code of an instruction is through, the next one's begins
-      enter : (p : ℕ) (c : Processor) (n : Noted) (s : P) (w : W) (g h : ℕ) → l.status s ≡ Runs → l.sees n w → l.fits s w → Inside p c n s g h → (i : Inside p c n s g h) × (i.stage.acted ≡ true → c.place ≢ l.begins s)
+      enter : (p : ℕ) (c : Processor) (n : Noted) (s : P) (w : W) (g h : ℕ) → l.status s ≡ Runs → l.sees n w → l.fits p s w → Inside p c n s g h → (i : Inside p c n s g h) × (i.stage.acted ≡ true → c.place ≢ l.begins s)
       unfolding begin
       enter p c n s w g h runs sees fit i = go i.stage.acted refl (cases_eq c.place (l.begins s))
         where
@@ -379,6 +385,7 @@ module _ {I P W : Type 0} (x : Setting I) (l : Meaning P W) (v : Reading) where
                 sees = subst (λ w. l.sees d.noted w) (sym after.world) y.shows;
                 outputs = outputs_same p m.outputs s.outputs d.outcome.output t.output r.outputs y.output ∙ sym after.outputs;
                 reached = reached;
+                words = λ e. bounds_step x (law.bounded e) p m running (r.words e);
               };
               owned = y.owned;
               missed = y.missed;
@@ -396,12 +403,12 @@ module _ {I P W : Type 0} (x : Setting I) (l : Meaning P W) (v : Reading) where
                 subst (λ z. Stands q (at_place m.processors p d.processor q) d.noted (s1.processors q) (at_place g p g1 q) z) (sym (at_other h p h1 q ne)) (subst (λ z. Stands q (at_place m.processors p d.processor q) d.noted (s1.processors q) z (h q)) (sym (at_other g p g1 q ne)) (subst (λ c. Stands q c d.noted (s1.processors q) (g q) (h q)) (sym (at_other m.processors p d.processor q ne)) (subst (λ u. Stands q (m.processors q) d.noted u (g q) (h q)) (sym (after.processors q ne)) k)))
 
         -- the own step, whatever it gives
-        own_step : (i : Inside p (m.processors p) m.noted (s.processors p) (g p) (h p)) → l.fits (s.processors p) s.world → (i.stage.acted ≡ true → (m.processors p).place ≢ l.begins (s.processors p)) → Stepped (meant_run l (events_of p gv) s)
+        own_step : (i : Inside p (m.processors p) m.noted (s.processors p) (g p) (h p)) → l.fits p (s.processors p) s.world → (i.stage.acted ≡ true → (m.processors p).place ≢ l.begins (s.processors p)) → Stepped (meant_run l (events_of p gv) s)
         unfolding after_own
         own_step i fit ne = go gv refl (outcome_of l gv p (s.processors p) s.world) refl (λ hs. (i.follows (Own ∷ hs)).1 s.world may)
           where
             may : Steppable l v x p i.stage (s.processors p) (m.processors p) m.noted s.world
-            may = record { sees = r.sees; fits = fit; fair = r.fair p; flat = λ plain. r.flat plain p; empty = empty; running = running; runs = runs; inner = ne }
+            may = record { sees = r.sees; fits = fit; fair = r.fair p; flat = λ plain. r.flat plain p; empty = empty; running = running; runs = runs; inner = ne; bounds = λ e. record { regs = (r.words e).regs p running; bytes = (r.words e).bytes } }
 
             -- what the step gives is what the contract speaks of
             same : (y : Given) → gv ≡ y → (t : Did P W) → outcome_of l gv p (s.processors p) s.world ≡ Some t → meant_if l (l.status (s.processors p)) y p s ≡ after_did p (Some t) s
@@ -451,7 +458,7 @@ module _ {I P W : Type 0} (x : Setting I) (l : Meaning P W) (v : Reading) where
             let q = ready_related in
             let runs : l.status (flushed.processors p) ≡ Runs = runs_of _ (sym (q.stands p).status ∙ running) in
             let fit0 = fits q.reached.0 p (ap (λ (y : Whole P W). l.status (y.processors p)) q.reached.1 ∙ runs) in
-            let fit : l.fits (flushed.processors p) flushed.world = subst (λ (y : Whole P W). l.fits (y.processors p) y.world) q.reached.1 fit0 in
+            let fit : l.fits p (flushed.processors p) flushed.world = subst (λ (y : Whole P W). l.fits p (y.processors p) y.world) q.reached.1 fit0 in
             let i = enter p (m.processors p) (ready x p m).noted (flushed.processors p) flushed.world (g p) (h p) runs q.sees fit ((q.stands p).inside running) in
             own_step (ready x p m) flushed g h q p running ready_empty i.0 fit i.1
 
@@ -491,6 +498,7 @@ module _ {I P W : Type 0} (x : Setting I) (l : Meaning P W) (v : Reading) where
             sees = b.sees;
             outputs = b.outputs;
             reached = ([], refl);
+            words = b.bounds;
           }
         where
           runs : (p : ℕ) → (m.processors p).status ≡ Running → l.status (s0.processors p) ≡ Runs

@@ -15,6 +15,7 @@ use Rattle.ax_isa.specs.Past.{Note, Noted, drain, drop_link}
 use Rattle.ax_isa.specs.Processor.{Processor}
 use Rattle.ax_isa.specs.Tells.{Given, Nothing, An_act, A_look, A_miss, Done, is_excused}
 pub use Rattle.ax_isa.specs.Run.{machine_status}
+use Rattle.ax_follow.specs.Bounds.{Bounded, InBounds}
 use Rattle.ax_isa.specs.Run.{Setting, step, flushing, events_of, idle_after, frame_base, outputs_of}
 
 -- what an event of a processor leaves: the processor, what all share, and an output; which source event it gives, and whether it is a caused failure or a busy test there
@@ -40,8 +41,8 @@ pub record Meaning (P W : Type 0) : Type 1 where
   pub begins : P → ℕ
   -- a machine's processor that stands there has this one's numbers
   pub matches : ℕ → Processor → Noted → P → Type 0
-  -- what holds of each state that can be reached
-  pub fits : P → W → Type 0
+  -- what holds of processor p in each state that can be reached
+  pub fits : ℕ → P → W → Type 0
 
 -- what the proof alone knows of an image
 pub record Reading : Type 0 where
@@ -56,6 +57,8 @@ pub record Reading : Type 0 where
   pub public : Entry → Bool
   -- so many idle steps in a row at most, in the code of one instruction
   pub most : ℕ
+  -- are registers known to hold words, and memory bytes
+  pub words : Bool
 
 -- the addresses of p's frame, and those that p may write: its frame, and all below the frames
 abbrev pub IsOwn : ℕ → ℕ → Type 0
@@ -168,13 +171,14 @@ module _ {P W : Type 0} (l : Meaning P W) (v : Reading) where
     -- what is known before an own step
     pub record Steppable (p : ℕ) (j : Stage) (s : P) (c : Processor) (n : Noted) (w : W) : Type 0 where
       pub sees : l.sees n w
-      pub fits : l.fits s w
+      pub fits : l.fits p s w
       pub fair : Fair p (n.storage.waiting p)
       pub flat : x.kind.buffered ≡ false → n.storage.waiting p ≡ []
       pub empty : flushing x p c n ≡ true → n.storage.waiting p ≡ []
       pub running : c.status ≡ Running
       pub runs : l.status s ≡ Runs
       pub inner : j.acted ≡ true → c.place ≢ l.begins s
+      pub bounds : v.words ≡ true → InBounds c n
 
     abbrev pub Steps : (Stage → P → Processor → Noted → Type 0) → ℕ → Stage → P → Processor → Noted → W → Done → Type 0
     Steps Then p j s c n w d = Possible (outcome_of l (given c d) p s w) (λ t. OwnStep Then p j s c n d (given c d) t)
@@ -188,11 +192,12 @@ module _ {P W : Type 0} (l : Meaning P W) (v : Reading) where
     -- THE CONTRACT: wherever a processor stands at the beginning of an instruction's code with its numbers, this code keeps in step, whatever happens
     pub record Follows : Type 0 where
       pub follows :
-          (p : ℕ) (s : P) (c : Processor) (n : Noted) (w : W) → l.status s ≡ Runs → c.place ≡ l.begins s → l.matches p c n s → l.sees n w → l.fits s w
+          (p : ℕ) (s : P) (c : Processor) (n : Noted) (w : W) → l.status s ≡ Runs → c.place ≡ l.begins s → l.matches p c n s → l.sees n w → l.fits p s w
           → (hs : List Happening) → InStep p hs stage_start s c n
 
     -- what all share, as a storage shows it, looks at no reservation, and follows the stores that go to memory
     pub record Lawful : Type 0 where
+      pub bounded : v.words ≡ true → Bounded x
       pub dropped : (p : ℕ) (n : Noted) (w : W) → l.sees n w → l.sees (drop_link p n) w
       pub drains :
           x.kind.buffered ≡ true → (p : ℕ) (n : Noted) (w : W) (e : Entry) (es : List Entry) → n.storage.waiting p ≡ e ∷ es → FairEntry p e → v.counts e ≡ true → l.sees n w

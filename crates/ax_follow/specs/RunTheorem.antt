@@ -6,6 +6,7 @@ use Rattle.ax_words.specs.declared.event.Event.{Event}
 use Rattle.ax_isa.specs.declared.cpu.Status.TheVariants.{Running}
 use Rattle.ax_isa.specs.Run.{Machine, Setting, done, drain_events, explain, gives, idle_run, run, sent, since_after, since_run}
 use Rattle.ax_isa.specs.Tells.{Nothing, A_miss, given_of, is_excused}
+use Rattle.ax_follow.specs.Bounds.{AllInBounds}
 use Rattle.ax_follow.specs.Contract.{Fair, Meaning, Possible, Reading, Whole, above_run, gives_of, machine_status, meant_run, outcome_of, source_events}
 
 module _ {I P W : Type 0} (x : Setting I) (l : Meaning P W) (v : Reading) where
@@ -17,6 +18,7 @@ module _ {I P W : Type 0} (x : Setting I) (l : Meaning P W) (v : Reading) where
     pub sees : l.sees m.noted s.world
     pub waiting : (p : ℕ) → m.noted.storage.waiting p ≡ []
     pub outputs : m.outputs ≡ s.outputs
+    pub bounds : v.words ≡ true → AllInBounds m
 
   -- after any list of events
   pub record Agreed (m : Machine) (s : Whole P W) (idle : ℕ → ℕ) : Type 0 where
@@ -39,7 +41,7 @@ module _ {I P W : Type 0} (x : Setting I) (l : Meaning P W) (v : Reading) where
 
   -- what holds of each state that the meaning can reach from s0
   abbrev pub AllFit : Whole P W → Type 0
-  AllFit s0 = (es : List SourceEvent) (p : ℕ) → l.status ((meant_run l es s0).processors p) ≡ Runs → l.fits ((meant_run l es s0).processors p) (meant_run l es s0).world
+  AllFit s0 = (es : List SourceEvent) (p : ℕ) → l.status ((meant_run l es s0).processors p) ≡ Runs → l.fits p ((meant_run l es s0).processors p) (meant_run l es s0).world
 
   abbrev pub meant_after : List Event → Machine → Whole P W → Whole P W
   meant_after es m0 s0 = meant_run l (explain x v.given v.marks v.counts es m0) s0

@@ -1,6 +1,7 @@
 //! Code that keeps in step with what it means, and its runs.
 
 ghost use Rattle.ax_isa.specs.Run.{Setting};
+ghost use Rattle.ax_follow.specs.Bounds.{RunsStayInBounds};
 ghost use Rattle.ax_follow.specs.Contract.{Follows, Lawful, Meaning, Reading};
 ghost use Rattle.ax_follow.specs.RunTheorem.{RunsInStep};
 
@@ -28,4 +29,10 @@ pub trait MeantCode {
 /// processor and others do, every run of the machine keeps in step with the run of the meaning.
 pub fn code_in_step_runs_in_step<C: MeantCode>()
     ensures { Follows C.meaning C.reading C.setting → Lawful C.meaning C.reading C.setting → RunsInStep C.setting C.meaning C.reading }
+{}
+
+/// Where the effects of the code carry numbers in their ranges, registers of running processors
+/// hold words and memory bytes, after every list of events.
+pub fn runs_stay_in_bounds<C: MeantCode>()
+    ensures { RunsStayInBounds C.setting }
 {}

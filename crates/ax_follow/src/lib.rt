@@ -3,4 +3,4 @@
 
 mod laws;
 
-pub use laws::{MeantCode, code_in_step_runs_in_step};
+pub use laws::{MeantCode, code_in_step_runs_in_step, runs_stay_in_bounds};

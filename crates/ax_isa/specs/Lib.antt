@@ -5,3 +5,5 @@ pub mod Effects
 pub mod Tells
 pub mod Run
 pub mod Stepping
+pub mod Numbers
+pub mod Marks

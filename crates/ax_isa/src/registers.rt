@@ -9,6 +9,7 @@ ghost use Rattle.ax_isa.specs.Steps.{extended, go_on, go_to, go_with, is_place, 
 
 use crate::cpu::Cpu;
 use crate::effects::Rest;
+use crate::numbers::extended_by_sign;
 
 /// Where a number of so many bytes goes: one register, or of 16 bytes two, low first.
 #[derive(Clone, Copy)]
@@ -70,20 +71,6 @@ fn extended(bytes: u8, rest: Rest, before: u64, number: u64) -> u64
         Rest::Zeros => number,
         Rest::Signs => extended_by_sign(bytes, number),
         Rest::Stays => over(bytes, before, number),
-    }
-}
-
-/// A number of so many bytes, extended by its sign.
-fn extended_by_sign(bytes: u8, number: u64) -> u64
-    requires width { FitsRegister bytes }
-    requires fits { number < 2 ^ (8 * bytes) }
-    ensures { result ≡ extended bytes Rest.Signs 0 number }
-{
-    match bytes {
-        1 if number >= 0x80 => number + 0xffff_ffff_ffff_ff00,
-        2 if number >= 0x8000 => number + 0xffff_ffff_ffff_0000,
-        4 if number >= 0x8000_0000 => number + 0xffff_ffff_0000_0000,
-        _ => number,
     }
 }
 

@@ -121,7 +121,7 @@ module _ (image : Image RvInstr) (program : First) (first : IsFirst program) (li
 
   -- without buffers nothing goes to memory later
   lawful : Lawful (meaning_of program places) (reading_of (tag_at image.tags) 8) (rv_setting image)
-  lawful = record { dropped = λ p n w h. h; drains = λ on. absurd (false≢true on); hides = λ on. absurd (false≢true on) }
+  lawful = record { dropped = λ p n w h. h; drains = λ on. absurd (false≢true on); hides = λ on. absurd (false≢true on); bounded = λ on. absurd (false≢true on) }
 
   module _ (entries : List ℕ) (are : AreEntries program entries) where
     abbrev begun : Machine
@@ -187,14 +187,15 @@ module _ (image : Image RvInstr) (program : First) (first : IsFirst program) (li
           sees = first_world program first limits;
           waiting = λ p. refl;
           outputs = refl;
+          bounds = λ on. absurd (false≢true on);
         }
 
     reached_fits : (es : List SourceEvent) (p : ℕ) → ((meant_run (meaning_of program places) es (whole_of (source_start program entries))).processors p).status ≡ Runs
-        → (meaning_of program places).fits ((meant_run (meaning_of program places) es (whole_of (source_start program entries))).processors p) (meant_run (meaning_of program places) es (whole_of (source_start program entries))).world
+        → (meaning_of program places).fits p ((meant_run (meaning_of program places) es (whole_of (source_start program entries))).processors p) (meant_run (meaning_of program places) es (whole_of (source_start program entries))).world
     reached_fits es p =
         let s = source_run program es (source_start program entries) in
         let is = run_meant program places es (source_start program entries) in
-        subst (λ (w : Whole SourceProcessor Numbers). (w.processors p).status ≡ Runs → (meaning_of program places).fits (w.processors p) w.world) (sym is) (λ run. sound_fits program first s p (run_sound program first es (source_start program entries) (start_sound program first entries are)) run)
+        subst (λ (w : Whole SourceProcessor Numbers). (w.processors p).status ≡ Runs → (meaning_of program places).fits p (w.processors p) w.world) (sym is) (λ run. sound_fits program first s p (run_sound program first es (source_start program entries) (start_sound program first entries are)) run)
 
     agreed : (events : List Event) → Agreed (rv_setting image) (meaning_of program places) (reading_of (tag_at image.tags) 8) (run_of image program entries events) (meant_run (meaning_of program places) (explained_by image program entries events) (whole_of (source_start program entries))) (idle_run (rv_setting image) given_of (tag_at image.tags) no_store events begun (λ p. 0))
     agreed events = run_follows (rv_setting image) (meaning_of program places) (reading_of (tag_at image.tags) 8) code_follows lawful (whole_of (source_start program entries)) begun begins_run reached_fits events

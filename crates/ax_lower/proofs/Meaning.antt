@@ -76,5 +76,5 @@ meaning_of program begins =
       number = λ s. 0;
       begins = λ s. begins s.function s.place;
       matches = λ p c n s. Matched program p c n.storage s × (c.role ≡ Outside);
-      fits = λ s w. Fitting program s w;
+      fits = λ p s w. Fitting program s w;
     }

@@ -24,7 +24,7 @@ setting_of code marks = record { kind = rv_kind; code = code; tags = marks; libr
 
 -- each instruction's step that has a tag makes its event, and nothing is said of whose code is whose
 abbrev pub reading_of : (ℕ → Tag) → ℕ → Reading
-reading_of marks most = record { marks = marks; given = given_of; owner = λ place. 0; counts = no_store; public = no_store; most = most }
+reading_of marks most = record { marks = marks; given = given_of; owner = λ place. 0; counts = no_store; public = no_store; most = most; words = false }
 
 pub same_role : (r : Role) (c : Processor) → r ≡ c.role → with_role r c ≡ c
 same_role r c e = ap (λ q. with_role q c) e

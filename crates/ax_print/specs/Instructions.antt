@@ -2,11 +2,11 @@
 use Rattle.std.specs.Prelude.{ℕ, ℤ, List, [], ◌∷◌, ◌++◌, codes, decimal}
 use Rattle.std.specs.Fmt.{signed_decimal}
 use Rattle.ax_words.specs.Routine.{name_of}
+use Rattle.ax_isa.specs.Numbers.{displaced}
 use Rattle.ax_rv.specs.declared.instructions.Ending.{Ending}
 use Rattle.ax_rv.specs.declared.instructions.Size.{Size}
 use Rattle.ax_rv.specs.declared.instructions.RvInstr.{RvInstr}
 use Rattle.ax_rv.specs.declared.instructions.RvInstr.TheVariants.{Li, Unary, Binary, Shift, Immediate, Load, Store, LoadReserved, StoreConditional, Amo, Fence, Jump, Call, Ret, Branch, Ecall, Ebreak, Nop}
-use Rattle.ax_rv.specs.Arithmetic.{displaced}
 use Rattle.ax_print.specs.Mnemonics.{amo_word, binary_word, condition_word, ending_word, fence_word, immediate_word, load_word, shift_word, size_word, store_word, unary_word}
 use Rattle.ax_print.specs.Registers.{register_name}
 

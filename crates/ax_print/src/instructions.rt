@@ -66,9 +66,11 @@ fn push_label(out: &mut String, place: u64, distance: i32) -> Result<(), AllocEr
     write!(out, ".L{target}")
 }
 
-/// Appends the text of the instruction at a place.
+/// Appends the text of the instruction at a place. A jump names the label of the place that it
+/// leads to, and a call its routine. The only error is that memory fails (RISC-V Unprivileged ISA,
+/// the assembler syntax).
 #[tactic(auto, unfolding(crate::specs::Instructions::instr_text))]
-pub(crate) fn push_instr(out: &mut String, place: u64, instr: &RvInstr) -> Result<(), AllocError>
+pub fn push_instr(out: &mut String, place: u64, instr: &RvInstr) -> Result<(), AllocError>
     ensures { OnOk result (string_bytes out.new ≡ string_bytes out.old ++ instr_text place instr.now) }
 {
     match *instr {

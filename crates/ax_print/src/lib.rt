@@ -10,6 +10,7 @@ pub mod report;
 pub mod tokens;
 
 pub use assembly::print;
+pub use instructions::push_instr;
 pub use report::{
     push_end, push_head, push_held, push_lock, push_machine, push_object, push_output,
     push_outputs, push_processor, push_source,

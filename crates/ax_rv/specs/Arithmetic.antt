@@ -1,7 +1,8 @@
 -- What instructions on registers compute (RISC-V Unprivileged ISA: RV64I and M). Numbers are of 64 bits.
-use Rattle.std.specs.Prelude.{ℕ, ◌+◌, ◌-◌, ◌*◌, ◌/◌, ◌%◌, ◌^◌, Bool, true, false, not, if◌then◌else◌, nat_eq, nat_lt, nat_le, int_lt, ℤ, pos, negsuc, bit_and, bit_or, bit_xor}
+use Rattle.std.specs.Prelude.{ℕ, ◌+◌, ◌-◌, ◌*◌, ◌/◌, ◌%◌, ◌^◌, Bool, true, false, not, nat_eq, nat_lt, nat_le, int_lt, ℤ, bit_and, bit_or, bit_xor}
 use Rattle.ax_ops.specs.Operation.{signed}
 use Rattle.ax_isa.specs.declared.effects.Rest.TheVariants.{Signs}
+use Rattle.ax_isa.specs.Numbers.{displaced, shifted_by_sign}
 use Rattle.ax_isa.specs.Steps.{extended}
 use Rattle.ax_rv.specs.declared.instructions.Binary.{Binary}
 use Rattle.ax_rv.specs.declared.instructions.Binary.TheVariants as binary_op
@@ -13,11 +14,6 @@ use Rattle.ax_rv.specs.declared.instructions.Shift.{Shift}
 use Rattle.ax_rv.specs.declared.instructions.Shift.TheVariants as shift_op
 use Rattle.ax_rv.specs.declared.instructions.Unary.{Unary}
 use Rattle.ax_rv.specs.declared.instructions.Unary.TheVariants as unary_op
-
--- a number with a signed one added, mod 2 ^ 64
-abbrev pub displaced : ℕ → ℤ → ℕ
-displaced a (pos d) = (a + d) % 2 ^ 64
-displaced a (negsuc d) = (a + (2 ^ 64 - 1 - d)) % 2 ^ 64
 
 abbrev pub one_if : Bool → ℕ
 one_if true = 1
@@ -31,10 +27,6 @@ shifted_left a k = a * 2 ^ k % 2 ^ 64
 
 abbrev pub shifted_right : ℕ → ℕ → ℕ
 shifted_right a k = a / 2 ^ k
-
--- the sign comes in from the left
-abbrev pub shifted_right_signed : ℕ → ℕ → ℕ
-shifted_right_signed a k = if nat_lt a (2 ^ 63) then a / 2 ^ k else 2 ^ 64 - 1 - (2 ^ 64 - 1 - a) / 2 ^ k
 
 abbrev pub unary_of : Unary → ℕ → ℕ
 unary_of unary_op.Move a = a
@@ -54,14 +46,14 @@ binary_of binary_op.Xor a b = bit_xor a b
 binary_of binary_op.Multiply a b = a * b % 2 ^ 64
 binary_of binary_op.ShiftLeft a b = shifted_left a (b % 64)
 binary_of binary_op.ShiftRight a b = shifted_right a (b % 64)
-binary_of binary_op.ShiftRightSigned a b = shifted_right_signed a (b % 64)
+binary_of binary_op.ShiftRightSigned a b = shifted_by_sign a (b % 64)
 binary_of binary_op.IsLess a b = one_if (signed_less a b)
 binary_of binary_op.IsBelow a b = one_if (nat_lt a b)
 
 abbrev pub shifted : Shift → ℕ → ℕ → ℕ
 shifted shift_op.Left a k = shifted_left a k
 shifted shift_op.Right a k = shifted_right a k
-shifted shift_op.RightSigned a k = shifted_right_signed a k
+shifted shift_op.RightSigned a k = shifted_by_sign a k
 
 abbrev pub immediate_of : Immediate → ℕ → ℤ → ℕ
 immediate_of immediate_op.And a n = bit_and a (displaced 0 n)

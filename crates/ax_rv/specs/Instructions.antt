@@ -1,5 +1,5 @@
 -- *RV64 instructions*: the one effect of each instruction, as a function of the registers (RISC-V Unprivileged ISA: RV64I, M and A).
-pub use Rattle.ax_rv.specs.Arithmetic.{displaced}
+pub use Rattle.ax_isa.specs.Numbers.{displaced}
 use Rattle.std.specs.Prelude.{ℕ, zero, suc, ◌+◌, ◌%◌, ◌<◌, ◌≤◌, ◌^◌, Bool, true, false, ◌||◌, if◌then◌else◌, nat_eq, ℤ, pos, negsuc}
 use Rattle.ax_words.specs.declared.operation.RmwOp.{RmwOp}
 use Rattle.ax_words.specs.declared.operation.RmwOp.TheVariants as rmw

@@ -1,46 +1,15 @@
 //! What instructions on registers compute.
 
-ghost use Rattle.std.specs.Prelude.{◌≡◌, ◌<◌, ◌+◌, ◌%◌, ◌^◌};
-ghost use Rattle.ax_isa.specs.declared.effects.Rest.TheVariants.{Signs};
-ghost use Rattle.ax_isa.specs.Steps.{extended};
-ghost use Rattle.ax_ops.specs.Operation.{signed};
-ghost use Rattle.ax_rv.specs.Arithmetic.{binary_of, displaced, holds, immediate_of, shifted, shifted_right_signed, signed_less, unary_of};
+ghost use Rattle.std.specs.Prelude.{◌≡◌, ◌<◌};
+ghost use Rattle.ax_rv.specs.Arithmetic.{binary_of, holds, immediate_of, shifted, signed_less, unary_of};
 
 use crate::instructions::{Binary, Condition, Immediate, Shift, Unary};
-
-/// An address with its displacement, mod 2^64.
-pub(crate) fn displaced(address: u64, d: i64) -> u64
-    ensures { result ≡ displaced address d }
-{
-    address.wrapping_add_signed(d)
-}
-
-/// The two's complement number.
-fn signed(number: u64) -> i128
-    ensures { result ≡ signed 64 number }
-{
-    if number < 0x8000_0000_0000_0000 {
-        number as i128
-    } else {
-        number as i128 - 0x1_0000_0000_0000_0000
-    }
-}
+use ax_isa::{displaced, extended_by_sign, shifted_by_sign, signed};
 
 fn signed_less(a: u64, b: u64) -> bool
     ensures { result ≡ signed_less a b }
 {
     signed(a) < signed(b)
-}
-
-fn shifted_right_signed(a: u64, k: u64) -> u64
-    requires { k < 64 }
-    ensures { result ≡ shifted_right_signed a k }
-{
-    if a < 0x8000_0000_0000_0000 {
-        a >> k
-    } else {
-        !(!a >> k)
-    }
 }
 
 pub(crate) fn unary_of(op: Unary, a: u64) -> u64
@@ -50,21 +19,9 @@ pub(crate) fn unary_of(op: Unary, a: u64) -> u64
         Unary::Move => a,
         Unary::Negate => 0u64.wrapping_sub(a),
         Unary::Not => !a,
-        Unary::SignExtendWord => extended(a % 0x1_0000_0000),
+        Unary::SignExtendWord => extended_by_sign(4, a % 0x1_0000_0000),
         Unary::IsZero => (a == 0) as u64,
         Unary::IsNotZero => (a != 0) as u64,
-    }
-}
-
-/// A number of 4 bytes, extended by its sign.
-fn extended(number: u64) -> u64
-    requires { number < 2 ^ 32 }
-    ensures { result ≡ extended 4 Signs 0 number }
-{
-    if number < 0x8000_0000 {
-        number
-    } else {
-        number + 0xffff_ffff_0000_0000
     }
 }
 
@@ -80,7 +37,7 @@ pub(crate) fn binary_of(op: Binary, a: u64, b: u64) -> u64
         Binary::Multiply => a.wrapping_mul(b),
         Binary::ShiftLeft => a << (b % 64),
         Binary::ShiftRight => a >> (b % 64),
-        Binary::ShiftRightSigned => shifted_right_signed(a, b % 64),
+        Binary::ShiftRightSigned => shifted_by_sign(a, (b % 64) as u32),
         Binary::IsLess => signed_less(a, b) as u64,
         Binary::IsBelow => (a < b) as u64,
     }
@@ -93,7 +50,7 @@ pub(crate) fn shifted(op: Shift, a: u64, k: u8) -> u64
     match op {
         Shift::Left => a << k,
         Shift::Right => a >> k,
-        Shift::RightSigned => shifted_right_signed(a, k as u64),
+        Shift::RightSigned => shifted_by_sign(a, k as u32),
     }
 }
 

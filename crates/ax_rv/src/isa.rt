@@ -1,6 +1,6 @@
 //! What each instruction does.
 
-ghost use Rattle.std.specs.Prelude.{◌≡◌};
+ghost use Rattle.std.specs.Prelude.{◌≡◌, false, true};
 ghost use Rattle.std.proofs.Common.{refl};
 ghost use Rattle.std.proofs.lemmas.Bool.{false≢true};
 ghost use Rattle.ax_isa.specs.Processor.{processor_of};
@@ -8,9 +8,9 @@ ghost use Rattle.ax_rv.specs.Instructions.{IsInstr, load_rest, operation_of, rea
 ghost use Rattle.ax_rv.specs.Laws.{effects_fit};
 ghost use Rattle.ax_rv.specs.Skeleton.{load_bytes, size_bytes, store_bytes};
 
-use crate::arithmetic::{binary_of, displaced, holds, immediate_of, shifted, unary_of};
+use crate::arithmetic::{binary_of, holds, immediate_of, shifted, unary_of};
 use crate::instructions::{Amo, LoadForm, RvInstr, Size, StoreForm};
-use ax_isa::{Back, Change, Cpu, Effect, Isa, Rest, Saved};
+use ax_isa::{Back, Change, Cpu, Effect, Isa, Rest, Saved, displaced};
 use ax_words::RmwOp;
 
 /// A register's number.
@@ -26,7 +26,7 @@ fn read(cpu: &Cpu, r: u8) -> u64
     }
 }
 
-fn load_bytes(form: LoadForm) -> u8
+pub(crate) fn load_bytes(form: LoadForm) -> u8
     ensures { result ≡ load_bytes form }
 {
     match form {
@@ -46,7 +46,7 @@ fn load_rest(form: LoadForm) -> Rest
     }
 }
 
-fn store_bytes(form: StoreForm) -> u8
+pub(crate) fn store_bytes(form: StoreForm) -> u8
     ensures { result ≡ store_bytes form }
 {
     match form {
@@ -57,7 +57,7 @@ fn store_bytes(form: StoreForm) -> u8
     }
 }
 
-fn size_bytes(size: Size) -> u8
+pub(crate) fn size_bytes(size: Size) -> u8
     ensures { result ≡ size_bytes size }
 {
     match size {
@@ -100,6 +100,10 @@ impl Isa for Rv64 {
     const BUFFERED: bool = false;
 
     const PAIRS: bool = true;
+
+    ghost BUFFERED = { false };
+
+    ghost PAIRS = { true };
 
     ghost kind = { rv_kind };
 
@@ -203,6 +207,10 @@ impl Isa for Rv64 {
             RvInstr::Ebreak => Effect::Trap,
         }
     }
+
+    ghost buffered_of_kind = { refl };
+
+    ghost pairs_of_kind = { refl };
 
     ghost apart = { λ b. absurd (false≢true b) };
 

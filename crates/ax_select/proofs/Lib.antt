@@ -1,40 +1,5 @@
-pub mod Registers
-pub mod Straight
-pub mod Computes
-pub mod Arith
-pub mod Sums
-pub mod Entering
-pub mod Reaching
-pub mod Elements
-pub mod Moves
-pub mod Branches
-pub mod Exchanges
-pub mod Run
-pub mod Beginning
-pub mod Placing
-pub mod Signs
-pub mod Pushing
-pub mod Comparisons
-pub mod Frames
-pub mod Labels
-pub mod Rises
-pub mod Accesses
-pub mod Ends
-pub mod Examples
-pub mod Cuts
-pub mod Shifts
-mod Written
-pub mod Choices
-pub mod Pointing
-pub mod Lying
-pub mod Aligned
-pub mod Accessing
-pub mod Natives
-pub mod Plains
-pub mod Edging
-pub mod Keeping
-pub mod Kept
-pub mod Whole
-pub mod Wide
-pub mod WideExchanges
-pub mod WideFrames
+mod Counts
+mod Ready
+mod Grown
+mod Lies
+mod Selects

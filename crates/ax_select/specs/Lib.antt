@@ -1,12 +1,1 @@
-pub mod Registers
-pub mod Ranges
-pub mod Operands
-pub mod Addresses
-pub mod Pieces
-pub mod Edges
-pub mod Selected
-pub mod Laid
-pub mod Matches
-pub mod Contract
-pub mod InStep
-pub mod Direct
+pub mod Ready

@@ -1,10 +1,11 @@
 //! From accepted modules to middle code.
 #![tactic(auto)]
 
-mod computing;
-mod halves;
-pub mod laws;
-mod lines;
-mod shifting;
+mod functions;
+mod globals;
+mod laws;
+mod pieces;
+mod selection;
 
-pub use laws::{code_is_laid, pieces_keep_runs_in_step, selected_code_runs_in_step};
+pub use laws::accepted_modules_are_ready;
+pub use selection::select;

@@ -1,6 +1,7 @@
 -- What the instructions compute from numbers of 64 bits (Intel SDM volume 2: ADD, SUB, AND, OR, XOR, IMUL, NEG, NOT, SAL/SAR/SHL/SHR, MOVZX, MOVSX/MOVSXD, MOV, SETcc).
-use Rattle.std.specs.Prelude.{ℕ, ◌+◌, ◌-◌, ◌*◌, ◌/◌, ◌%◌, ◌^◌, Bool, nat_lt, bit_and, bit_or, bit_xor, if◌then◌else◌}
+use Rattle.std.specs.Prelude.{ℕ, ◌+◌, ◌-◌, ◌*◌, ◌/◌, ◌%◌, ◌^◌, Bool, bit_and, bit_or, bit_xor, if◌then◌else◌}
 use Rattle.ax_isa.specs.declared.effects.Rest.TheVariants.{Signs, Stays}
+use Rattle.ax_isa.specs.Numbers.{shifted_by_sign}
 use Rattle.ax_isa.specs.Steps.{extended}
 use Rattle.ax_x86.specs.declared.instructions.Alu.{Alu}
 use Rattle.ax_x86.specs.declared.instructions.Alu.TheVariants.{Add, Sub, And, Or, Xor, Imul}
@@ -23,10 +24,6 @@ negative n = (2 ^ 64 - n) % 2 ^ 64
 
 abbrev pub complement : ℕ → ℕ
 complement n = 2 ^ 64 - 1 - n
-
--- a shift to the right that fills with the sign: the complement of a negative number is shifted
-abbrev pub shifted_by_sign : ℕ → ℕ → ℕ
-shifted_by_sign n count = if nat_lt n (2 ^ 63) then n / 2 ^ count else 2 ^ 64 - 1 - (2 ^ 64 - 1 - n) / 2 ^ count
 
 -- the count is masked to 6 bits
 abbrev pub shift_result : Shift → ℕ → ℕ → ℕ

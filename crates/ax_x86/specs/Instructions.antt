@@ -1,5 +1,5 @@
 -- *x86-64 instructions*: the one effect of each instruction, as a function of the registers (Intel SDM volume 2, in AT&T's order of operands). All sums are mod 2 ^ 64.
-use Rattle.std.specs.Prelude.{ℕ, ◌+◌, ◌-◌, ◌*◌, ◌%◌, ◌^◌, ◌<◌, ◌≤◌, true, false, nat_eq, if◌then◌else◌, [], ◌∷◌, slice_index_or, ℤ, pos, negsuc, FitsSigned}
+use Rattle.std.specs.Prelude.{ℕ, ◌+◌, ◌-◌, ◌*◌, ◌%◌, ◌^◌, ◌<◌, ◌≤◌, true, false, nat_eq, if◌then◌else◌, [], ◌∷◌, slice_index_or, ℤ, FitsSigned}
 use Rattle.std.specs.Int.{w32}
 use Rattle.ax_words.specs.declared.operation.RmwOp.TheVariants.{Add as Sum, Xchg as Swap}
 use Rattle.ax_isa.specs.declared.effects.Back.TheVariants.{Stack as Pops}
@@ -9,6 +9,7 @@ use Rattle.ax_isa.specs.declared.effects.Effect.TheVariants.{Set, Compare, Load,
 use Rattle.ax_isa.specs.declared.effects.Rest.{Rest}
 use Rattle.ax_isa.specs.declared.effects.Rest.TheVariants.{Zeros, Stays}
 use Rattle.ax_isa.specs.declared.effects.Saved.TheVariants.{Stack}
+use Rattle.ax_isa.specs.Numbers.{displaced}
 use Rattle.ax_isa.specs.Processor.{Processor}
 use Rattle.ax_isa.specs.Steps.{Kind}
 use Rattle.ax_x86.specs.Arithmetic.{alu_result, complement, extension_result, low_byte_set, negative, shift_result}
@@ -21,11 +22,6 @@ use Rattle.ax_x86.specs.declared.instructions.Size.{Size}
 use Rattle.ax_x86.specs.declared.instructions.Size.TheVariants.{Byte, Word, Long, Quad}
 use Rattle.ax_x86.specs.declared.instructions.X86Instr.{X86Instr}
 use Rattle.ax_x86.specs.declared.instructions.X86Instr.TheVariants as x86
-
--- an address with its displacement, and the place that a jump at a place names
-abbrev pub displaced : ℕ → ℤ → ℕ
-displaced n (pos d) = (n + d) % 2 ^ 64
-displaced n (negsuc d) = (n + (2 ^ 64 - 1 - d)) % 2 ^ 64
 
 abbrev pub address_of : MemoryOperand → Processor → ℕ
 address_of memory c = displaced (c.regs memory.base) memory.displacement

@@ -1,11 +1,10 @@
 //! What the instructions compute from the numbers of registers.
 
-ghost use Rattle.std.specs.Prelude.{◌≡◌, ◌<◌, ◌*◌, ◌-◌, ◌%◌, ◌^◌, ◌⊎◌};
-ghost use Rattle.ax_isa.specs.declared.effects.Rest.TheVariants.{Signs};
-ghost use Rattle.ax_isa.specs.Steps.{extended};
-ghost use Rattle.ax_x86.specs.Arithmetic.{alu_result, complement, extension_result, low_byte_set, negative, shift_result, shifted_by_sign};
+ghost use Rattle.std.specs.Prelude.{◌≡◌};
+ghost use Rattle.ax_x86.specs.Arithmetic.{alu_result, complement, extension_result, low_byte_set, negative, shift_result};
 
 use crate::instructions::{Alu, Extension, Shift};
+use ax_isa::{extended_by_sign, shifted_by_sign};
 
 /// The number that an operation leaves in its second operand.
 pub(crate) fn alu_result(op: Alu, to: u64, from: u64) -> u64
@@ -47,18 +46,6 @@ pub(crate) fn shift_result(op: Shift, number: u64, count: u8) -> u64
     }
 }
 
-/// A shift to the right that fills with the sign.
-fn shifted_by_sign(number: u64, count: u32) -> u64
-    requires { count < 64 }
-    ensures { result ≡ shifted_by_sign number count }
-{
-    if number < 0x8000_0000_0000_0000 {
-        number >> count
-    } else {
-        u64::MAX - ((u64::MAX - number) >> count)
-    }
-}
-
 /// The low bytes of a number, extended.
 pub(crate) fn extension_result(kind: Extension, number: u64) -> u64
     ensures { result ≡ extension_result kind number }
@@ -70,20 +57,6 @@ pub(crate) fn extension_result(kind: Extension, number: u64) -> u64
         Extension::SignByte => extended_by_sign(1, number % 0x100),
         Extension::SignWord => extended_by_sign(2, number % 0x1_0000),
         Extension::SignLong => extended_by_sign(4, number % 0x1_0000_0000),
-    }
-}
-
-/// A number of 1, 2 or 4 bytes, extended by its sign.
-fn extended_by_sign(bytes: u8, number: u64) -> u64
-    requires bytes { (bytes ≡ 1) ⊎ ((bytes ≡ 2) ⊎ (bytes ≡ 4)) }
-    requires fits { number < 2 ^ (8 * bytes) }
-    ensures { result ≡ extended bytes Signs 0 number }
-{
-    match bytes {
-        1 if number >= 0x80 => number + 0xffff_ffff_ffff_ff00,
-        2 if number >= 0x8000 => number + 0xffff_ffff_ffff_0000,
-        4 if number >= 0x8000_0000 => number + 0xffff_ffff_0000_0000,
-        _ => number,
     }
 }
 

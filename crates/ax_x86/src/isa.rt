@@ -1,9 +1,9 @@
 //! The instruction set x86-64: the effect of each instruction.
 
-ghost use Rattle.std.specs.Prelude.{◌≡◌, ◌+◌, ◌-◌, ◌*◌, ◌%◌, ◌^◌};
+ghost use Rattle.std.specs.Prelude.{◌≡◌, true, false, ◌+◌, ◌-◌, ◌*◌, ◌%◌, ◌^◌};
 ghost use Rattle.std.proofs.Common.{refl};
 ghost use Rattle.ax_isa.specs.Processor.{processor_of};
-ghost use Rattle.ax_x86.specs.Instructions.{IsInstr, address_of, branch_place, cmov_result, displaced, effect_of, rest_of, x86_kind};
+ghost use Rattle.ax_x86.specs.Instructions.{IsInstr, address_of, branch_place, cmov_result, effect_of, rest_of, x86_kind};
 ghost use Rattle.ax_x86.specs.Sizes.{size_bytes};
 ghost use Rattle.ax_x86.specs.Laws.{effects_fit, never_paired};
 
@@ -12,7 +12,7 @@ use crate::arithmetic::{
 };
 use crate::conditions::holds;
 use crate::instructions::{Condition, MemoryOperand, Size, X86Instr};
-use ax_isa::{Back, Change, Cpu, Effect, Isa, Rest, Saved};
+use ax_isa::{Back, Change, Cpu, Effect, Isa, Rest, Saved, displaced};
 use ax_words::RmwOp;
 
 const RAX: u8 = 0;
@@ -37,18 +37,11 @@ fn read(cpu: &Cpu, r: u8) -> u64
     }
 }
 
-/// A number and a displacement, mod 2^64: an address, or the place that a jump at a place names.
-pub fn displaced(number: u64, displacement: i32) -> u64
-    ensures { result ≡ displaced number displacement }
-{
-    number.wrapping_add_signed(displacement as i64)
-}
-
 /// The address of a memory operand.
 fn address_of(cpu: &Cpu, memory: MemoryOperand) -> u64
     ensures { result ≡ address_of memory (processor_of cpu.now) }
 {
-    displaced(read(cpu, memory.base), memory.displacement)
+    displaced(read(cpu, memory.base), memory.displacement as i64)
 }
 
 /// What becomes of the register's other bytes where a locked instruction changes its low ones.
@@ -170,7 +163,7 @@ fn branch_place(cpu: &Cpu, condition: Condition, distance: i32) -> u64
     ensures { result ≡ branch_place condition distance (processor_of cpu.now) }
 {
     if holds(condition, cpu.compared) {
-        displaced(cpu.place as u64, distance)
+        displaced(cpu.place as u64, distance as i64)
     } else {
         cpu.place as u64 + 1
     }
@@ -222,6 +215,10 @@ impl Isa for X86 {
 
     const PAIRS: bool = false;
 
+    ghost BUFFERED = { true };
+
+    ghost PAIRS = { false };
+
     ghost kind = { x86_kind };
 
     ghost valid = { IsInstr };
@@ -263,7 +260,7 @@ impl Isa for X86 {
             X86Instr::LockCmpxchg16b { memory } => cmpxchg16b(cpu, memory),
             X86Instr::Mfence => Effect::Fence,
             X86Instr::Jmp { distance } => Effect::Jump {
-                place: displaced(cpu.place as u64, distance),
+                place: displaced(cpu.place as u64, distance as i64),
             },
             X86Instr::Jcc {
                 condition,
@@ -280,6 +277,10 @@ impl Isa for X86 {
             X86Instr::Nop => Effect::Nop,
         }
     }
+
+    ghost buffered_of_kind = { refl };
+
+    ghost pairs_of_kind = { refl };
 
     ghost apart = { λ b. refl };
 

@@ -9,5 +9,5 @@ mod isa;
 mod marks;
 
 pub use instructions::{Alu, Condition, Extension, MemoryOperand, Shift, Size, X86Instr};
-pub use isa::{X86, displaced};
+pub use isa::X86;
 pub use marks::skeleton;

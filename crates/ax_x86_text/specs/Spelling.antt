@@ -15,7 +15,7 @@ use Rattle.ax_x86.specs.declared.instructions.Size.{Size}
 use Rattle.ax_x86.specs.declared.instructions.Size.TheVariants.{Byte, Word, Long, Quad}
 use Rattle.ax_x86.specs.declared.instructions.X86Instr.{X86Instr}
 use Rattle.ax_x86.specs.declared.instructions.X86Instr.TheVariants as x86
-use Rattle.ax_x86.specs.Instructions.{displaced}
+use Rattle.ax_isa.specs.Numbers.{displaced}
 use Rattle.ax_x86_text.specs.Registers.{register_name}
 
 abbrev pub alu_word : Alu → List ℕ

@@ -6,8 +6,9 @@ ghost use Rattle.ax_x86_text.specs.Registers.{register_name};
 ghost use Rattle.ax_x86_text.specs.Spelling.{access_text, alu_word, condition_code, double_text, extension_word, instr_text, jump_text, load_size, load_word, locked_text, memory_text, narrow_size, shift_word, single_text, suffix, wide_size};
 
 use crate::registers::register_name;
+use ax_isa::displaced;
 use ax_words::RoutineName;
-use ax_x86::{Alu, Condition, Extension, MemoryOperand, Shift, Size, X86Instr, displaced};
+use ax_x86::{Alu, Condition, Extension, MemoryOperand, Shift, Size, X86Instr};
 use std::alloc::AllocError;
 
 /// Appends the instruction that stands at a place, in AT&T's syntax: a jump names the place to
@@ -170,7 +171,7 @@ fn push_wide_exchange(out: &mut String, memory: MemoryOperand) -> Result<(), All
 fn push_jump(out: &mut String, word: &str, place: usize, distance: i32) -> Result<(), AllocError>
     ensures { OnOk result (string_bytes out.new ≡ string_bytes out.old ++ jump_text word.now place distance) }
 {
-    let target = displaced(place as u64, distance);
+    let target = displaced(place as u64, distance as i64);
     write!(out, "{word} .L{target}")
 }
 
@@ -183,7 +184,7 @@ fn push_branch(
     ensures { OnOk result (string_bytes out.new ≡ string_bytes out.old ++ jump_text (106 ∷ condition_code condition) place distance) }
 {
     let code = condition_code(condition);
-    let target = displaced(place as u64, distance);
+    let target = displaced(place as u64, distance as i64);
     write!(out, "j{code} .L{target}")
 }
 

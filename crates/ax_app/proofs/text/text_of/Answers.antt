@@ -11,13 +11,12 @@ use Rattle.ax_print.specs.Assembly.{assembly_text}
 use Rattle.ax_run.specs.Run.{IsOf}
 use Rattle.ax_app.specs.Report.{run_report}
 use Rattle.ax_app.proofs.Reports.{begun, gone}
-use Rattle.ax_app.proofs.FunctionNames.{names_fine}
 use Rattle.ax_app.proofs.text.text_of.Goals as goal
 
 pub lower-requires-clause-names : goal.lower-requires-clause-names
 lower-requires-clause-names c =
     let p = c.requires.program in
-    ap are_names p.kept.function_names ∙ names_fine c.args.built.accepted.source p.formed
+    ap are_names p.kept.function_names ∙ c.function_names_are_names.ensures c.args.built.accepted.source p.formed
 
 pub print-requires-clause-names : goal.print-requires-clause-names
 print-requires-clause-names c =

@@ -20,4 +20,5 @@ returns g c =
     (c.given.ensures
     ∙ ap (λ t. events_of c.args.p (given_of t c.bytes_of.result before c.perform-outcome.result)) c.tag_at-tag.ensures
     ∙ ap (λ b. events_of c.args.p (given_of (tag_at c.args.tags.now c.args.c.now.place) b before c.perform-outcome.result)) c.bytes_of.ensures.value)
+    c.perform-outcome.ensures.spares
     c.perform-outcome.ensures.kept

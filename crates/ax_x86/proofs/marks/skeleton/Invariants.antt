@@ -1,6 +1,7 @@
 use Rattle.std.proofs.Common.{◌≡◌, take}
-use Rattle.ax_x86.specs.Skeleton.{is_one_of, skeleton}
+use Rattle.ax_isa.specs.Marks.{is_among}
+use Rattle.ax_x86.specs.Skeleton.{skeleton}
 use Rattle.ax_x86.proofs.marks.skeleton.Given as goal
 
 abbrev pub invariant-loop-i : goal.invariant-loop-i
-invariant-loop-i l = l.marks.items ≡ skeleton (is_one_of l.skip) (take l.i-index l.code)
+invariant-loop-i l = l.marks.items ≡ skeleton (is_among l.skip) (take l.i-index l.code)

@@ -1,0 +1,4 @@
+mod Indexes
+mod Tables
+mod Bounds
+mod Pieces
