@@ -1,0 +1,11 @@
+pub mod Views
+pub mod Sights
+pub mod Telling
+pub mod Bytes
+pub mod Steps
+pub mod Straight
+pub mod Ending
+pub mod Embed
+pub mod Wrapped
+pub mod Single
+pub mod Accesses

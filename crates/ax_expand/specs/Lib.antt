@@ -1,0 +1,14 @@
+pub mod Shared
+pub mod World
+pub mod Bytes
+pub mod Private
+pub mod Standing
+pub mod Operation
+pub mod Doing
+pub mod Expands
+pub mod Continues
+pub mod Mirrors
+pub mod Wraps
+pub mod OneInstruction
+pub mod Accesses
+pub mod Laws

@@ -1,0 +1,5 @@
+pub mod Ahead
+pub mod World
+pub mod Small
+pub mod Acts
+pub mod Events

@@ -1,0 +1,11 @@
+pub mod Still
+pub mod Alone
+pub mod Walking
+pub mod Reserved
+pub mod Retry
+pub mod Tracked
+pub mod Compare
+pub mod Updating
+pub mod Ways
+pub mod Exchange
+pub mod WideRetry

@@ -1,0 +1,10 @@
+pub mod Moving
+pub mod Replacing
+pub mod Retry
+pub mod Compare
+pub mod Updating
+pub mod Storing
+pub mod Ways
+pub mod Exchanging
+pub mod PairExchange
+pub mod WideRetry
