@@ -1,0 +1,11 @@
+pub mod Slots
+pub mod Frames
+pub mod Moves
+pub mod Acts
+pub mod Lines
+pub mod Branches
+pub mod Computed
+pub mod Atomics
+pub mod Accesses
+pub mod Composed
+pub mod Passes

@@ -1,0 +1,9 @@
+pub mod Touches
+pub mod Table
+pub mod Lines
+pub mod Performs
+pub mod Atomics
+pub mod Images
+pub mod Laws
+pub mod Runs
+pub mod Passes

@@ -1,0 +1,9 @@
+pub mod Rounds
+pub mod Found
+pub mod Accesses
+pub mod Around
+pub mod Acts
+pub mod Inline
+pub mod Rows
+pub mod Idle
+pub mod Emitted
