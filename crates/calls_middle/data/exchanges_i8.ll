@@ -1,0 +1,27 @@
+; Parts of the pairs of compare-exchanges of i8, of which the first stores and the second does
+; not; then one that expects a cut number.
+@x = global i8 -3, align 1
+declare void @out(i64)
+define void @f() {
+  %v1 = cmpxchg ptr @x, i8 -3, i8 7 acq_rel monotonic, align 1
+  %v2 = extractvalue { i8, i1 } %v1, 0
+  %v3 = zext i8 %v2 to i64
+  call void @out(i64 %v3)
+  %v4 = extractvalue { i8, i1 } %v1, 1
+  %v5 = zext i1 %v4 to i64
+  call void @out(i64 %v5)
+  %v6 = cmpxchg ptr @x, i8 -3, i8 9 acq_rel monotonic, align 1
+  %v7 = extractvalue { i8, i1 } %v6, 0
+  %v8 = zext i8 %v7 to i64
+  call void @out(i64 %v8)
+  %v9 = extractvalue { i8, i1 } %v6, 1
+  %v10 = zext i1 %v9 to i64
+  call void @out(i64 %v10)
+  %v11 = add i8 7, -7
+  %v12 = add i8 %v11, 7
+  %v13 = cmpxchg ptr @x, i8 %v12, i8 -1 seq_cst seq_cst, align 1
+  %v14 = extractvalue { i8, i1 } %v13, 1
+  %v15 = zext i1 %v14 to i64
+  call void @out(i64 %v15)
+  ret void
+}

@@ -1,0 +1,9 @@
+; The greater of -1 and 1, with signs.
+@x = global i32 -1, align 4
+declare void @out(i64)
+define void @f() {
+  %1 = atomicrmw max ptr @x, i32 1 monotonic, align 4
+  %2 = zext i32 %1 to i64
+  call void @out(i64 %2)
+  ret void
+}
