@@ -1,14 +1,10 @@
-//! Rows of calls of the machine's instructions: effects, instructions of three sets by their
-//! spellings, lowered programs as text, and report lines.
+//! Rows of calls of the machine's instructions: effects, and instructions of three sets by their
+//! spellings.
 #![tactic(auto)]
 
 mod arm;
-mod built;
 mod effects;
-mod images;
 mod machine;
-mod reports;
-mod runs;
 mod rv;
 mod sets;
 mod spelled;
@@ -102,11 +98,7 @@ impl Calls for Instructions {
             ["event", event, p] => self.happened(alloc, event, p),
             ["spellings", set] => Ok(spellings(alloc, set_of(set)?)?),
             ["step", place, effect @ ..] => steps::stepped(alloc, place, effect),
-            ["assembly"] => images::assembly_is(alloc, texts),
-            ["assembly_has"] => images::assembly_has(alloc, texts),
-            ["run"] => runs::ran(alloc, texts),
-            ["printed"] => images::printed(alloc, texts),
-            _ => reports::answer(alloc, words),
+            _ => Err(Fault::Row),
         }
     }
 }
