@@ -2,8 +2,8 @@
 """Times atomx on a module of 64 functions whose blocks stand in the reverse of their order.
 
 Run by hand: bench/checking.py PATH_OF_ATOMX. Each function has 1,024 blocks and 2,047 instructions,
-and each value is used in the block behind it on the walk. The module has no fault and is not of the
-first kind, so atomx reads it, checks it and answers `unbuilt module`. Prints seconds and peak memory.
+and each value is used in the block behind it on the walk. The module has no fault; where it needs
+a loop or a routine, atomx answers `unbuilt module`, and else lowers it. Prints seconds and peak memory.
 """
 import os
 import sys

@@ -1,5 +1,5 @@
 #!/usr/bin/env python3
-"""Times atomx on the largest module of the first kind, and on 1,000,000 steps.
+"""Times atomx on a module near the limit of a module file, and on 1,000,000 steps.
 
 Run by hand: bench/largest.py PATH_OF_ATOMX. Prints seconds and peak memory of each run.
 """

@@ -198,7 +198,8 @@ module _ {scope : Scope} {x : Looks} {tokens : List (List ℕ)} (known : Known s
       → Eats x.text pointer_behind (codes "getelementptr" ∷ codes "(" ∷ (gep_tokens tokens elem count b t v ++ (codes ")" ∷ us))) us (λ p. addr_of x p ≡ Some (record { base = b; step = Some (elem, count, t, v) }))
   unfolding pointer_behind word_of
   gep_behind elem count b t v e w h s o r = takes (sign1 refl) (do
-    passes (quiet_mark pass.Path mark.Open)
+    skips {Q = λ b. b ≡ false} refl (eaten refl)
+    skips {Q = λ b. b ≡ false} refl (eaten refl)
     sign1 refl
     c ← path_eats elem count b t v e w h s o r
     sign1 refl

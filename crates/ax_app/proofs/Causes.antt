@@ -1,18 +1,21 @@
 -- What reading the files of a command, and then judging their bytes, comes to.
-use Rattle.std.proofs.Common.{◌≡◌, ℕ, List, [], ◌∷◌, ◌++◌, Option, Some, sym, ap, subst, ◌∙◌, inl, inr, ⊎_elim, append_assoc}
+use Rattle.std.proofs.Common.{◌≡◌, ℕ, true, false, List, [], ◌∷◌, ◌++◌, Option, Some, None, sym, ap, subst, ◌∙◌, inl, inr, ⊎_elim, append_assoc}
 use Rattle.std.proofs.lemmas.List.{append-nil}
 use Rattle.ax_io.specs.Count.{Rose}
 use Rattle.ax_module.specs.declared.module.Module.{Module as ModuleType}
+use Rattle.ax_layout.specs.Layout.{layout_of}
+use Rattle.ax_source_run.specs.SourceState.{SourceProgram}
 use Rattle.ax_read.specs.Derivation.{Derives}
-use Rattle.ax_app.specs.declared.built.Built.{Built}
+use Rattle.ax_check.specs.Faults.{IsFirstOfFaults}
+use Rattle.ax_inline_rv.specs.Inline.{is_built}
 use Rattle.ax_app.specs.declared.verdict.Part.TheVariants.{Module, Schedule}
 use Rattle.ax_app.specs.declared.verdict.Verdict.{Verdict}
 use Rattle.ax_app.specs.declared.verdict.Verdict.TheVariants as verdict
-use Rattle.ax_app.specs.Judged.{IsBuiltAs, JudgesRun, RefusesModule, RefusesSource}
+use Rattle.ax_app.specs.Judged.{IsAcceptedAs, IsBuiltAs, JudgesRun, RefusesModule, RefusesSource}
 use Rattle.ax_app.specs.Reads.{ReadWhole, ReadFails}
 use Rattle.ax_target.specs.declared.target.Target.{Target}
 use Rattle.ax_app.specs.Answers.{command_in, command_of, map_form, run_form}
-use Rattle.ax_app.specs.Serve.{Reading, reading, CauseOf, CauseOfMap, CauseOfRun, HasAsked, IsBuilt, IsModuleVerdict, IsRunVerdict, OfBoth, OfFile}
+use Rattle.ax_app.specs.Serve.{Reading, reading, CauseOf, CauseOfMap, CauseOfRun, HasAsked, IsBuilt, IsModuleVerdict, IsRunVerdict, OfBoth, OfFile, on_rv64, rv64}
 
 pub source_refused : (bytes : List ℕ) (m : ModuleType) → Derives bytes m → (v : Verdict) → RefusesSource m v → RefusesModule bytes v
 source_refused bytes m d verdict.Memory h = tt
@@ -27,6 +30,27 @@ source_refused bytes m d (verdict.Name line) h = absurd h
 source_refused bytes m d verdict.Unbuilt h = absurd h
 source_refused bytes m d (verdict.Schedule line why) h = absurd h
 
+-- ---- accepted modules
+pub accepted_as : (m : ModuleType) (program : SourceProgram) → program.source ≡ m → program.target ≡ rv64 → program.layout ≡ layout_of program.source → IsFirstOfFaults m rv64 None → IsAcceptedAs m program
+accepted_as m program source target layout none =
+    let laid = layout ∙ ap layout_of source in
+    record { is = λ d. record { source = source d; layout = laid d; target = target d }; none = none }
+
+module _ (bytes : List ℕ) (m : ModuleType) (program : SourceProgram) (derives : Derives bytes m) (accepted : IsAcceptedAs m program) where
+  pub built_as : is_built program ≡ true → IsBuiltAs bytes program
+  built_as built =
+      let source : program.source ≡ m = ap (λ (p : SourceProgram). p.source) accepted.is in
+      record {
+        derives = subst (λ x. Derives bytes x) (sym source) derives;
+        is = accepted.is ∙ ap on_rv64 (sym source);
+        none = subst (λ x. IsFirstOfFaults x rv64 None) (sym source) accepted.none;
+        built = built;
+      }
+
+  pub unbuilt : is_built program ≡ false → RefusesModule bytes verdict.Unbuilt
+  unbuilt other = (m, derives, accepted.none, ap is_built (sym accepted.is) ∙ other)
+
+-- ---- commands
 -- words of the form that asks for a mapping table
 pub map_judged : (r : Reading) (words : List (List ℕ)) (target : Target) (v : Verdict) → map_form words ≡ Some target → CauseOfMap r target v → CauseOf r (command_of words) v
 map_judged r words target v form h = subst (λ t. CauseOf r (command_in t (run_form words)) v) (sym form) h
@@ -73,9 +97,9 @@ module _ (held held_between : List ℕ → Option (List ℕ)) (same : (n : List 
   abbrev pub both : Reading
   both = reading held asked asked_after faults faults_after taken_after
 
-  module _ (m s bytes : List ℕ) (built : Built) (h : ReadWhole first Module m bytes) (is : IsBuiltAs bytes built) where
+  module _ (m s bytes : List ℕ) (program : SourceProgram) (h : ReadWhole first Module m bytes) (is : IsBuiltAs bytes program) where
     earlier : OfFile both Module (m, s) IsBuilt
-    earlier b t = (h.within b t, record { source = built.accepted.source; derives = subst (λ x. Derives x built.accepted.source) (h.told b t) is.derives; accepted = is.accepted; kind = built.first; first = is.program.first })
+    earlier b t = (h.within b t, record { source = program.source; derives = subst (λ x. Derives x program.source) (h.told b t) is.derives; accepted = is.none; built = ap is_built (sym is.is) ∙ is.built })
 
     asked_one : asked_after ≡ asked_between → HasAsked both (m ∷ [])
     asked_one e = e ∙ h.asked
@@ -101,11 +125,11 @@ module _ (held held_between : List ℕ → Option (List ℕ)) (same : (n : List 
     second_fails (verdict.Schedule line why) k = absurd k
 
     module _ (schedule : List ℕ) (k : ReadWhole second Schedule s schedule) where
-      of_both : (v : Verdict) → IsRunVerdict built.accepted.source schedule v → OfBoth both (m, s) v
+      of_both : (v : Verdict) → IsRunVerdict program.source schedule v → OfBoth both (m, s) v
       unfolding earlier
-      of_both v run = λ b c t u. (h.within b t, k.within c (same s ∙ u), (earlier b t).1, subst (λ x. IsRunVerdict built.accepted.source x v) (k.told c (same s ∙ u)) run)
+      of_both v run = λ b c t u. (h.within b t, k.within c (same s ∙ u), (earlier b t).1, subst (λ x. IsRunVerdict program.source x v) (k.told c (same s ∙ u)) run)
 
-      pub run_judged : (v : Verdict) → JudgesRun built.accepted.source schedule v → CauseOfRun both (m, s) v
+      pub run_judged : (v : Verdict) → JudgesRun program.source schedule v → CauseOfRun both (m, s) v
       run_judged verdict.Memory run = inr (inr (asked_two k.asked))
       run_judged (verdict.Text t) run = (asked_two k.asked, of_both (verdict.Text t) run)
       run_judged (verdict.Schedule line why) run = (asked_two k.asked, of_both (verdict.Schedule line why) run)

@@ -1,33 +1,26 @@
 -- What the stages of a command come to.
-use Rattle.std.specs.Prelude.{◌≡◌, List, ℕ, Some, None}
+use Rattle.std.specs.Prelude.{◌≡◌, List, ℕ, None, true}
 use Rattle.std.specs.String.{string_bytes}
 use Rattle.ax_module.specs.declared.module.Module.{Module}
-use Rattle.ax_module.specs.WellFormed.{IsModule}
 use Rattle.ax_source_run.specs.SourceState.{SourceProgram}
 use Rattle.ax_read.specs.Derivation.{Derives}
 use Rattle.ax_check.specs.Faults.{IsFirstOfFaults}
-use Rattle.ax_first.specs.FirstKind.{first_of}
-use Rattle.ax_first.specs.Kept.{IsKept}
-use Rattle.ax_app.specs.declared.built.Built.{Built}
+use Rattle.ax_inline_rv.specs.Inline.{is_built}
 use Rattle.ax_app.specs.declared.verdict.Verdict.{Verdict}
 use Rattle.ax_app.specs.declared.verdict.Verdict.TheVariants as verdict
-use Rattle.ax_app.specs.Serve.{HasRefusal, IsModuleVerdict, IsRunVerdict, rv64}
+use Rattle.ax_app.specs.Serve.{HasRefusal, IsModuleVerdict, IsRunVerdict, on_rv64, rv64}
 
--- an accepted module, with its program
-pub record IsProgram (built : Built) : Type 0 where
-  pub formed : IsModule built.accepted.source
-  pub first : first_of built.accepted.source ≡ Some built.first
-  pub kept : IsKept built.accepted.source built.first
-
--- the module without faults that a text derives
-pub record IsBuiltAs (bytes : List ℕ) (built : Built) : Type 0 where
-  pub derives : Derives bytes built.accepted.source
-  pub accepted : IsFirstOfFaults built.accepted.source rv64 None
-  pub program : IsProgram built
-
-pub record IsAcceptedAs (m : Module) (accepted : SourceProgram) : Type 0 where
-  pub source : accepted.source ≡ m
+-- a module that has no fault on RV64, and its program there
+pub record IsAcceptedAs (m : Module) (program : SourceProgram) : Type 0 where
+  pub is : program ≡ on_rv64 m
   pub none : IsFirstOfFaults m rv64 None
+
+-- the module without faults that a text derives, and which is built
+pub record IsBuiltAs (bytes : List ℕ) (program : SourceProgram) : Type 0 where
+  pub derives : Derives bytes program.source
+  pub is : program ≡ on_rv64 program.source
+  pub none : IsFirstOfFaults program.source rv64 None
+  pub built : is_built program ≡ true
 
 -- a module's first fault, or want of memory
 abbrev pub RefusesSource : Module → Verdict → Type 0

@@ -1,5 +1,5 @@
 -- What a command comes to, and why: *Answers and their causes*.
-use Rattle.std.specs.Prelude.{◌≡◌, ℕ, ◌<◌, ◌≤◌, ◌⊎◌, List, [], ◌∷◌, ◌++◌, length, map, Option, Some, None, false}
+use Rattle.std.specs.Prelude.{◌≡◌, ℕ, ◌<◌, ◌≤◌, ◌⊎◌, List, [], ◌∷◌, ◌++◌, length, map, Option, Some, None, false, true}
 use Rattle.std.specs.String.{string_bytes}
 use Rattle.ax_io.specs.Count.{Rose}
 use Rattle.ax_isa.specs.declared.images.Image.{Image}
@@ -11,9 +11,8 @@ use Rattle.ax_check.specs.declared.refusal.Refusal.{Refusal}
 use Rattle.ax_check.specs.Faults.{IsFirstOfFaults}
 use Rattle.ax_read.specs.declared.fault.ReadFault.TheVariants as fault
 use Rattle.ax_read.specs.Derivation.{Derives, IsReadFault}
-use Rattle.ax_first.specs.declared.module.FirstModule.{FirstModule}
-use Rattle.ax_first.specs.Alike.{on_rv64}
-use Rattle.ax_first.specs.FirstKind.{first_of}
+use Rattle.ax_layout.specs.Layout.{layout_of}
+use Rattle.ax_source_run.specs.SourceState.{SourceProgram}
 use Rattle.ax_sched.specs.declared.plan.Plan.{Plan}
 use Rattle.ax_sched.specs.Events.{events_of}
 use Rattle.ax_sched.specs.Schedule.{IsFirstBad, IsSchedule}
@@ -21,6 +20,7 @@ use Rattle.ax_agree.specs.Lowers.{Lowers, NeverIdles, machine_run, explanation}
 use Rattle.ax_agree.specs.Rows.{HasRows}
 use Rattle.ax_agree.specs.Sound.{IsSound}
 use Rattle.ax_rv.specs.Instructions.{IsInstr, rv_kind}
+use Rattle.ax_inline_rv.specs.Inline.{is_built}
 use Rattle.ax_print.specs.Assembly.{assembly_text}
 use Rattle.ax_app.specs.declared.done.Done.{Done}
 use Rattle.ax_app.specs.declared.verdict.Part.{Part}
@@ -32,6 +32,13 @@ use Rattle.ax_table.specs.MapText.{map_text}
 use Rattle.ax_app.specs.Writing.{Writing, Writes, written_of, answer_of}
 use Rattle.ax_app.specs.Places.{place_in}
 use Rattle.ax_app.specs.Report.{run_report}
+
+abbrev pub rv64 : Target
+rv64 = Rv false false
+
+-- a module with its layout on RV64
+abbrev pub on_rv64 : ModuleType → SourceProgram
+on_rv64 m = record { source = m; layout = layout_of m; target = rv64 }
 
 -- a text of a module's run on RV64: the assembly of an image that lowers the module, and then the report of that image's run under the plan
 pub record IsTextOf (m : ModuleType) (plan : Plan) (text : List ℕ) : Type 0 where
@@ -48,9 +55,6 @@ pub record IsTextOf (m : ModuleType) (plan : Plan) (text : List ℕ) : Type 0 wh
       text ≡ assembly_text (map (λ f. f.name) m.functions) image
       ++ run_report (on_rv64 m) (map (λ g. g.name) m.globals) (length plan.entries) (machine_run rv_kind image (on_rv64 m) plan.entries (events_of false plan)) (explanation rv_kind image (on_rv64 m) plan.entries (events_of false plan)) (events_of false plan)
 
-abbrev pub rv64 : Target
-rv64 = Rv false false
-
 -- the first of the module's faults on RV64 has this number and this place
 abbrev pub HasRefusal : ModuleType → ℕ → List ℕ → Type 0
 HasRefusal m number place = (r : Refusal) × IsFirstOfFaults m rv64 (Some r) × (number ≡ r.number) × (place ≡ place_in m r.place)
@@ -61,8 +65,8 @@ IsModuleVerdict bytes (verdict.Syntax line) = IsReadFault bytes (fault.Syntax li
 IsModuleVerdict bytes (verdict.Opcode line) = IsReadFault bytes (fault.Opcode line)
 IsModuleVerdict bytes (verdict.Name line) = IsReadFault bytes (fault.Name line)
 IsModuleVerdict bytes (verdict.Refused number place) = (m : ModuleType) × Derives bytes m × HasRefusal m number (string_bytes place)
--- the module has no fault, and is not of the first kind
-IsModuleVerdict bytes verdict.Unbuilt = (m : ModuleType) × Derives bytes m × IsFirstOfFaults m rv64 None × (first_of m ≡ None)
+-- the module has no fault, and is not built
+IsModuleVerdict bytes verdict.Unbuilt = (m : ModuleType) × Derives bytes m × IsFirstOfFaults m rv64 None × (is_built (on_rv64 m) ≡ false)
 IsModuleVerdict bytes _ = ⊥
 
 -- the bytes derive a module without faults that is built
@@ -70,8 +74,7 @@ pub record IsBuilt (bytes : List ℕ) : Type 0 where
   pub source : ModuleType
   pub derives : Derives bytes source
   pub accepted : IsFirstOfFaults source rv64 None
-  pub kind : FirstModule
-  pub first : first_of source ≡ Some kind
+  pub built : is_built (on_rv64 source) ≡ true
 
 -- THE HEADLINE, and what the bytes of a schedule come to where they are refused
 abbrev pub IsRunVerdict : ModuleType → List ℕ → Verdict → Type 0

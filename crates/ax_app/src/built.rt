@@ -1,16 +1,14 @@
 //! Modules that are built: what the bytes of a module file come to.
 
-ghost use Rattle.std.specs.Prelude.{◌≡◌, ◌≤◌, ℕ, List, length, MatchResult, Some};
+ghost use Rattle.std.specs.Prelude.{◌≡◌, ◌≤◌, ℕ, List, length, MatchResult};
 ghost use Rattle.ax_module.specs.WellFormed.{IsModule};
-ghost use Rattle.ax_first.specs.Alike.{on_rv64};
 ghost use Rattle.ax_read.specs.Derivation.{IsReadFault};
-ghost use Rattle.ax_check.specs.Faults.{IsFirstOfFaults};
 ghost use Rattle.ax_app.specs.Judged.{IsAcceptedAs, IsBuiltAs, RefusesModule, RefusesSource};
 
 use crate::places::Names;
 use crate::verdict::Verdict;
 use ax_check::{Accepted, CheckFault, Refusal, check};
-use ax_first::{FirstModule, first_of};
+use ax_lower::is_built;
 use ax_module::Module;
 use ax_read::{ReadFault, read};
 use ax_target::Target;
@@ -21,13 +19,6 @@ const RV64: Target = Target::Rv {
     zabha: false,
     zacas: false,
 };
-
-/// A module that is built, and the program that it is.
-#[derive(Drop)]
-pub struct Built {
-    pub accepted: Accepted,
-    pub first: FirstModule,
-}
 
 fn unread(fault: ReadFault) -> Verdict
     ensures { (bytes : List ℕ) → IsReadFault bytes fault → RefusesModule bytes result }
@@ -50,7 +41,10 @@ fn accepted_of(alloc: Global, source: Module) -> Result<Accepted, Verdict>
         Err(_) => return Err(Verdict::Memory),
     };
     let refusal = match check(alloc, source, RV64) {
-        Ok(accepted) => return Ok(accepted),
+        Ok(accepted) => {
+            accepted.is_without_faults();
+            return Ok(accepted);
+        }
         Err(CheckFault::Refused(refusal)) => refusal,
         Err(CheckFault::Memory) => return Err(Verdict::Memory),
     };
@@ -62,10 +56,10 @@ fn accepted_of(alloc: Global, source: Module) -> Result<Accepted, Verdict>
 }
 
 /// The module of a module file's bytes, if it is built.
-#[tactic(auto, using(crate::proofs::Causes::source_refused))]
-pub(crate) fn built_of(alloc: Global, bytes: &[u8]) -> Result<Built, Verdict>
+#[tactic(auto, using(crate::proofs::Causes::source_refused, crate::proofs::Causes::built_as, crate::proofs::Causes::unbuilt))]
+pub(crate) fn built_of(alloc: Global, bytes: &[u8]) -> Result<Accepted, Verdict>
     requires { length bytes.now ≤ 4194304 }
-    ensures { MatchResult result (λ built. IsBuiltAs bytes.now built) (λ v. RefusesModule bytes.now v) }
+    ensures { MatchResult result (λ accepted. IsBuiltAs bytes.now accepted) (λ v. RefusesModule bytes.now v) }
 {
     let source = match read(alloc, bytes) {
         Ok(source) => source,
@@ -75,9 +69,9 @@ pub(crate) fn built_of(alloc: Global, bytes: &[u8]) -> Result<Built, Verdict>
         Ok(accepted) => accepted,
         Err(verdict) => return Err(verdict),
     };
-    match first_of(alloc, accepted.module()) {
-        Ok(Some(first)) => Ok(Built { accepted, first }),
-        Ok(None) => Err(Verdict::Unbuilt),
-        Err(_) => Err(Verdict::Memory),
+    if is_built(&accepted) {
+        Ok(accepted)
+    } else {
+        Err(Verdict::Unbuilt)
     }
 }

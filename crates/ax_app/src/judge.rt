@@ -57,15 +57,15 @@ fn judge_run<F: Files>(
         Ok(bytes) => bytes,
         Err(verdict) => return verdict,
     };
-    let built = match built_of(alloc, &bytes) {
-        Ok(built) => built,
+    let accepted = match built_of(alloc, &bytes) {
+        Ok(accepted) => accepted,
         Err(verdict) => return verdict,
     };
     let schedule = match read_part(alloc, files, Part::Schedule, schedule_name) {
         Ok(bytes) => bytes,
         Err(verdict) => return verdict,
     };
-    run_of(alloc, built, &schedule)
+    run_of(alloc, &accepted, &schedule)
 }
 
 /// The mapping table of a target.

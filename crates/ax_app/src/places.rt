@@ -6,7 +6,7 @@ ghost use Rattle.ax_module.specs.Names.{IsAscii, global_token};
 ghost use Rattle.ax_module.specs.WellFormed.{IsModule};
 ghost use Rattle.ax_app.specs.Places.{AreNamesOf, name_at, place_text};
 
-use ax_first::{function_names, global_names};
+use ax_lowered::{function_names, global_names};
 use ax_module::{Module, Name, names_are_ascii};
 use ax_words::Place;
 use std::alloc::{AllocError, Global};

@@ -1,19 +1,15 @@
 //! The report of a run.
 
-ghost use Rattle.std.specs.Prelude.{◌≡◌, ◌++◌, ◌<◌, ◌≤◌, ◌^◌, OnOk, All, length};
+ghost use Rattle.std.specs.Prelude.{◌≡◌, ◌++◌, ◌<◌, ◌≤◌, ◌^◌, OnOk, All, length, map};
 ghost use Rattle.std.specs.String.{string_bytes};
-ghost use Rattle.ax_module.specs.declared.module.Module.{Module};
-ghost use Rattle.ax_first.specs.Alike.{IsProgramOf, on_rv64};
+ghost use Rattle.ax_module.specs.Names.{IsAscii};
+ghost use Rattle.ax_layout.specs.Layout.{CanBeLaidOut, count_in, layout_of};
 ghost use Rattle.ax_isa.specs.Run.{Machine};
-ghost use Rattle.ax_source_run.specs.SourceState.{SourceProgram};
 ghost use Rattle.ax_run.specs.Machine.{Shows};
-ghost use Rattle.ax_store.specs.Bytes.{number_at};
-ghost use Rattle.ax_lower.specs.Layout.{HasElement, address_of};
-ghost use Rattle.ax_print.specs.Report.{object_line};
-ghost use Rattle.ax_app.specs.Report.{object_part, processor_part, lock_part, run_report};
+ghost use Rattle.ax_app.specs.Report.{element_line, element_lines, object_part, processor_part, lock_part, run_report};
 
-use ax_first::globals_are_words;
-use ax_lower::Name;
+use ax_layout::regions::objects_are_apart;
+use ax_module::{Name, module};
 use ax_print::{
     push_end, push_head, push_held, push_lock, push_machine, push_object, push_outputs,
     push_processor, push_source,
@@ -21,29 +17,52 @@ use ax_print::{
 use ax_run::Run;
 use std::alloc::AllocError;
 
-/// The line of the one element of a global.
-fn push_element(out: &mut String, run: &Run, name: &Name, g: u32) -> Result<(), AllocError>
-    requires element { HasElement run.now.program g 0 }
-    requires bytes { All (λ b. b < 128) name.now }
-    ensures { (m : Machine) → Shows run.now.machine m → OnOk result (string_bytes out.new ≡ string_bytes out.old ++ object_line name.now 0 (number_at m.noted.storage.mem (address_of g) 8)) }
+/// The line of an element of a global, which there is.
+fn push_element(out: &mut String, run: &Run, name: &Name, g: u32, i: u64) -> Result<(), AllocError>
+    requires global { g < length run.now.program.layout.spans }
+    requires element { i < count_in run.now.program.layout g }
+    requires bytes { IsAscii name.now }
+    ensures { (m : Machine) → Shows run.now.machine m → OnOk result (string_bytes out.new ≡ string_bytes out.old ++ element_line run.now.program m.noted.storage.mem g name.now i) }
 {
-    match run.object(g, 0) {
-        Some(number) => push_object(out, name, 0, number),
-        None => push_held(out, name, 0),
+    match run.object(g, i) {
+        Some(number) => push_object(out, name, i, number),
+        None => push_held(out, name, i),
     }
 }
 
-/// The lines of the globals, of one element each.
-fn push_objects(out: &mut String, run: &Run, globals: &[Name]) -> Result<(), AllocError>
-    requires count { length globals.now ≡ length run.now.program.globals }
-    requires few { length globals.now < 2 ^ 32 }
-    requires bytes { All (λ name. All (λ b. b < 128) name) globals.now }
-    ensures { (source : Module) → IsProgramOf source run.now.program → (m : Machine) → Shows run.now.machine m → OnOk result (string_bytes out.new ≡ string_bytes out.old ++ object_part (on_rv64 source) m.noted.storage.mem 0 globals.now) }
+/// The lines of a global's elements.
+#[tactic(auto, using(crate::proofs::Reports::element_next, crate::proofs::Reports::element_none))]
+fn push_elements(
+    out: &mut String,
+    run: &Run,
+    name: &Name,
+    g: u32,
+    count: u64,
+) -> Result<(), AllocError>
+    requires global { g < length run.now.program.layout.spans }
+    requires count { count ≡ count_in run.now.program.layout g }
+    requires bytes { IsAscii name.now }
+    ensures { (m : Machine) → Shows run.now.machine m → OnOk result (string_bytes out.new ≡ string_bytes out.old ++ element_lines run.now.program m.noted.storage.mem g name.now 0 count) }
 {
-    globals_are_words();
+    for i in 0..count {
+        push_element(out, run, name, g, i)?;
+    }
+    Ok(())
+}
+
+/// The lines of all elements of all globals, which are those of the run's module.
+fn push_objects(out: &mut String, run: &Run, globals: &[module::Global]) -> Result<(), AllocError>
+    requires globals { globals.now ≡ run.now.program.source.globals }
+    requires few { length globals.now < 2 ^ 32 }
+    requires bytes { All (λ name. IsAscii name) (map (λ g. g.name) globals.now) }
+    requires limits { CanBeLaidOut run.now.program.source }
+    requires layout { run.now.program.layout ≡ layout_of run.now.program.source }
+    ensures { (m : Machine) → Shows run.now.machine m → OnOk result (string_bytes out.new ≡ string_bytes out.old ++ object_part run.now.program m.noted.storage.mem 0 (map (λ g. g.name) globals.now)) }
+{
+    objects_are_apart();
     let mut g = 0;
-    for name in globals {
-        push_element(out, run, name, g)?;
+    for global in globals {
+        push_elements(out, run, &global.name, g, global.count)?;
         g += 1;
     }
     Ok(())
@@ -52,7 +71,7 @@ fn push_objects(out: &mut String, run: &Run, globals: &[Name]) -> Result<(), All
 /// The lines of the processors.
 #[tactic(auto, using(crate::proofs::Reports::processor_next, crate::proofs::Reports::processor_none))]
 fn push_processors(out: &mut String, run: &Run) -> Result<(), AllocError>
-    ensures { (of : SourceProgram) (m : Machine) → Shows run.now.machine m → OnOk result (string_bytes out.new ≡ string_bytes out.old ++ processor_part of m 0 (length run.now.plan.entries)) }
+    ensures { (m : Machine) → Shows run.now.machine m → OnOk result (string_bytes out.new ≡ string_bytes out.old ++ processor_part run.now.program m 0 (length run.now.plan.entries)) }
 {
     for p in 0..run.processors() {
         push_processor(
@@ -79,12 +98,18 @@ fn push_locks(out: &mut String, run: &Run, count: u32) -> Result<(), AllocError>
     Ok(())
 }
 
-/// Appends the report of a run.
-pub(crate) fn push_report(out: &mut String, run: &Run, globals: &[Name]) -> Result<(), AllocError>
-    requires count { length globals.now ≡ length run.now.program.globals }
+/// Appends the report of a run of a module with these globals.
+pub(crate) fn push_report(
+    out: &mut String,
+    run: &Run,
+    globals: &[module::Global],
+) -> Result<(), AllocError>
+    requires globals { globals.now ≡ run.now.program.source.globals }
     requires few { length globals.now < 2 ^ 32 }
-    requires bytes { All (λ name. All (λ b. b < 128) name) globals.now }
-    ensures { (source : Module) → IsProgramOf source run.now.program → (m : Machine) → Shows run.now.machine m → OnOk result (string_bytes out.new ≡ string_bytes out.old ++ run_report (on_rv64 source) globals.now (length run.now.plan.entries) m run.now.machine.sources run.now.machine.events) }
+    requires bytes { All (λ name. IsAscii name) (map (λ g. g.name) globals.now) }
+    requires limits { CanBeLaidOut run.now.program.source }
+    requires layout { run.now.program.layout ≡ layout_of run.now.program.source }
+    ensures { (m : Machine) → Shows run.now.machine m → OnOk result (string_bytes out.new ≡ string_bytes out.old ++ run_report run.now.program (map (λ g. g.name) globals.now) (length run.now.plan.entries) m run.now.machine.sources run.now.machine.events) }
 {
     push_head(out, run.processors(), run.machine_schedule().len() as u64)?;
     push_outputs(out, run.outputs())?;

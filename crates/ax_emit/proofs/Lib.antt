@@ -9,3 +9,6 @@ pub mod Atomics
 pub mod Accesses
 pub mod Composed
 pub mod Passes
+pub mod Behind
+pub mod Ranges
+pub mod Same

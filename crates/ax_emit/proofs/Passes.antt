@@ -1,6 +1,7 @@
 -- The two passes of emission, a line at a time.
-use Rattle.std.proofs.Common.{◌≡◌, ℕ, zero, suc, ◌+◌, ◌^◌, ◌≤◌, ◌<◌, Bool, List, [], ◌∷◌, ◌++◌, length, map, drop, get_or, refl, sym, ap, ◌∙◌, arith, append_assoc, add-one, drop-cons}
-use Rattle.std.specs.Prelude.{slice_index_or}
+use Rattle.std.proofs.Common.{◌≡◌, ℕ, zero, suc, ◌+◌, ◌^◌, ◌≤◌, ◌<◌, Bool, List, [], ◌∷◌, ◌++◌, length, map, drop, get_or, refl, sym, ap, subst, ◌∙◌, arith, append_assoc, add-one, drop-cons}
+use Rattle.std.specs.Prelude.{All, Some, slice_get, slice_index_or}
+use Rattle.std.proofs.lemmas.Option.{slice_get_read}
 use Rattle.ax_tags.specs.declared.tags.Tag.{Tag}
 use Rattle.ax_mid.specs.declared.code.Line.{Line}
 use Rattle.ax_expand.specs.Standing.{hush}
@@ -25,6 +26,16 @@ module _ {R : Type 0} (size_of : Line R → ℕ) where
   pub end_above : (at : ℕ) (lines : List (Line R)) → at ≤ place_end size_of at lines
   end_above at [] = omega arith
   end_above at (line ∷ lines) = let h = end_above (at + size_of line) lines in omega (arith, h)
+
+  -- and so is no place
+  place_few : (at bound : ℕ) (lines : List (Line R)) → place_end size_of at lines < bound → (k d : ℕ) → k < length (places_from size_of at lines) → slice_index_or (places_from size_of at lines) k d < bound
+  place_few at bound [] few zero d h = few
+  place_few at bound [] few (suc k) d h = absurd (omega (arith, h))
+  place_few at bound (line ∷ lines) few zero d h = let le = end_above (at + size_of line) lines in omega (arith, le, few)
+  place_few at bound (line ∷ lines) few (suc k) d h = place_few (at + size_of line) bound lines few k d (omega (arith, h))
+
+  pub places_few : (places : List ℕ) (lines : List (Line R)) (bound : ℕ) → places ≡ places_from size_of 1 lines → place_end size_of 1 lines < bound → All (λ p. p < bound) places
+  places_few places lines bound made few = subst (All (λ p. p < bound)) (sym made) (place_few 1 bound lines few)
 
   module _ {I : Type 0} (code_of : (ℕ → ℕ) → ℕ → Line R → List (I × Tag)) where
     place_is : (at : ℕ) (lines : List (Line R)) (j : ℕ) → slice_index_or (places_from size_of at lines) j 0 ≡ place_of size_of code_of lines at j
@@ -62,6 +73,10 @@ drop_end (x ∷ xs) (suc i) h = drop_end xs i (omega (arith, h))
 pub drop_is : {A : Type 0} (xs : List A) (i : ℕ) (x : A) → i < length xs → x ≡ get_or xs i x → drop i xs ≡ x ∷ drop (i + 1) xs
 drop_is {A} xs i x h e = drop-cons xs i x h ∙ ap (λ (y : A). y ∷ drop (suc i) xs) (sym e) ∙ (rw add-one refl)
 
+-- the element at hand is among them
+pub is_there : {A : Type 0} (xs : List A) (i : ℕ) (x : A) → i < length xs → x ≡ get_or xs i x → slice_get xs i ≡ Some x
+is_there xs i x h e = slice_get_read xs (length xs) i x refl h e
+
 module _ {R : Type 0} (size_of : Line R → ℕ) (at i : ℕ) (line : Line R) (lines : List (Line R)) (front : drop i lines ≡ line ∷ drop (i + 1) lines) where
   pub places_go_on : (next : ℕ) (places new whole : List ℕ) → new ≡ places ++ at ∷ [] → next ≡ at + size_of line → places ++ places_from size_of at (drop i lines) ≡ whole → new ++ places_from size_of next (drop (i + 1) lines) ≡ whole
   places_go_on next places new whole pushed is h =
@@ -71,7 +86,7 @@ module _ {R : Type 0} (size_of : Line R → ℕ) (at i : ℕ) (line : Line R) (l
   pub end_goes_on : (next end : ℕ) → next ≡ at + size_of line → place_end size_of at (drop i lines) ≡ end → place_end size_of next (drop (i + 1) lines) ≡ end
   end_goes_on next end is h = ap (λ q. place_end size_of q (drop (i + 1) lines)) is ∙ sym (ap (place_end size_of at) front) ∙ h
 
-  pub next_fits : (end size : ℕ) → size ≡ size_of line → place_end size_of at (drop i lines) ≡ end → end < 2 ^ 32 → at + size < 2 ^ 32
+  pub next_fits : (end size : ℕ) → size ≡ size_of line → place_end size_of at (drop i lines) ≡ end → end < 2 ^ 31 → at + size < 2 ^ 31
   next_fits end size is h few = let e = end_goes_on (at + size) end (ap (λ q. at + q) is) h in let le = end_above size_of (at + size) (drop (i + 1) lines) in omega (arith, e, le, few)
 
   module _ {I : Type 0} (code_of : (ℕ → ℕ) → ℕ → Line R → List (I × Tag)) (places : ℕ → ℕ) where

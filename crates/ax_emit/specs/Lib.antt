@@ -7,3 +7,5 @@ pub mod Images
 pub mod Laws
 pub mod Runs
 pub mod Passes
+pub mod Sites
+pub mod Behind

@@ -21,11 +21,14 @@ pub trait EmittedCode {
     /// The instruction set.
     ghost kind: { Kind Self.Instr };
 
+    /// Which code it is, where there are several.
+    ghost Case: { Type 0 };
+
     /// The middle code, and what it means.
-    ghost program: { Program Register World };
+    ghost program: { Case → Program Register World };
 
     /// The code of its lines.
-    ghost emission: { Emission Self.Instr Register };
+    ghost emission: { Case → Emission Self.Instr Register };
 }
 
 /// The image of middle code, as code with a meaning: that of the machine of one step a line.
@@ -40,17 +43,19 @@ impl<E: EmittedCode> MeantCode for Emitted<E> {
 
     ghost World = { E.World };
 
-    ghost setting = { setting_of_image E.kind E.program E.emission };
+    ghost Case = { E.Case };
 
-    ghost meaning = { fine E.program (places_in E.program E.emission) };
+    ghost setting = { λ case. setting_of_image E.kind (E.program case) (E.emission case) };
 
-    ghost reading = { reading_of_image E.program E.emission };
+    ghost meaning = { λ case. fine (E.program case) (places_in (E.program case) (E.emission case)) };
+
+    ghost reading = { λ case. reading_of_image (E.program case) (E.emission case) };
 }
 
 /// Where the code of each line keeps its contract, every run of the image keeps in step with the
 /// run of the middle machine that makes one step a line.
 pub fn emitted_code_runs<E: EmittedCode>()
-    ensures { EmittedCodeRuns E.kind E.program E.emission }
+    ensures { (case : E.Case) → EmittedCodeRuns E.kind (E.program case) (E.emission case) }
 {
     code_in_step_runs_in_step::<Emitted<E>>();
 }

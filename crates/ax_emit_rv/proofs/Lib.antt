@@ -5,3 +5,5 @@ pub mod Frames
 pub mod Ends
 pub mod Atomics
 pub mod Lines
+pub mod Emitting
+pub mod Sizes

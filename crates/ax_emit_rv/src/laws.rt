@@ -1,5 +1,6 @@
 //! What holds of RV64 code of middle code.
 
+ghost use Rattle.ax_emit_rv.specs.Emitters.{LineCodeIsSteady};
 ghost use Rattle.ax_emit_rv.specs.Laws.{RvCodeFollows, RvLineFollows};
 
 use ax_emit::{
@@ -12,7 +13,7 @@ use ax_rv::Rv64;
 /// with those of the expansion of an atomic operation, and of one access to what all share, as
 /// premises.
 pub fn rv_line_follows<M: MiddleProgram>()
-    ensures { RvLineFollows M.program }
+    ensures { (case : M.Case) → RvLineFollows (M.program case) }
 {
     computed_line_follows::<Rv64, M>();
     ended_line_follows::<Rv64, M>();
@@ -25,8 +26,14 @@ pub fn rv_line_follows<M: MiddleProgram>()
 /// So the image that is laid out from these lines' code keeps in step with the middle machine that
 /// makes one step a line.
 pub fn rv_code_follows<M: MiddleProgram>()
-    ensures { RvCodeFollows M.program }
+    ensures { (case : M.Case) → RvCodeFollows (M.program case) }
 {
     rv_line_follows::<M>();
     emitted_code_follows::<Rv64, M>();
 }
+
+/// The code of a line has one size, wherever it and the other lines stand, where the code of each
+/// atomic operation has one length.
+pub fn line_code_is_steady<R>()
+    ensures { LineCodeIsSteady R }
+{}

@@ -1,6 +1,16 @@
 //! RV64 code of middle code.
 #![tactic(auto)]
 
+mod accesses;
+mod computed;
+mod emitter;
+mod jumps;
 mod laws;
+mod operations;
+mod parts;
+mod slots;
 
-pub use laws::{rv_code_follows, rv_line_follows};
+pub use emitter::RvEmitter;
+pub use laws::{line_code_is_steady, rv_code_follows, rv_line_follows};
+pub use operations::OperationEmitter;
+pub use parts::{Piece, push_acting, push_silent};

@@ -15,24 +15,27 @@ pub trait MeantCode {
     /// What all processors share above.
     ghost World: { Type 0 };
 
+    /// Which code it is, where there are several.
+    ghost Case: { Type 0 };
+
     /// The machine with its code and tags.
-    ghost setting: { Setting Self.Instr };
+    ghost setting: { Case → Setting Self.Instr };
 
     /// What its code means.
-    ghost meaning: { Meaning Above World };
+    ghost meaning: { Case → Meaning Above World };
 
     /// Which step makes which event.
-    ghost reading: { Reading };
+    ghost reading: { Case → Reading };
 }
 
 /// Where the code of each instruction keeps in step with its meaning, through whatever its
 /// processor and others do, every run of the machine keeps in step with the run of the meaning.
 pub fn code_in_step_runs_in_step<C: MeantCode>()
-    ensures { Follows C.meaning C.reading C.setting → Lawful C.meaning C.reading C.setting → RunsInStep C.setting C.meaning C.reading }
+    ensures { (case : C.Case) → Follows (C.meaning case) (C.reading case) (C.setting case) → Lawful (C.meaning case) (C.reading case) (C.setting case) → RunsInStep (C.setting case) (C.meaning case) (C.reading case) }
 {}
 
 /// Where the effects of the code carry numbers in their ranges, registers of running processors
 /// hold words and memory bytes, after every list of events.
 pub fn runs_stay_in_bounds<C: MeantCode>()
-    ensures { RunsStayInBounds C.setting }
+    ensures { (case : C.Case) → RunsStayInBounds (C.setting case) }
 {}

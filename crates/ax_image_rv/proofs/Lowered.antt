@@ -63,7 +63,8 @@ use Rattle.ax_selected.specs.Selected.{mid_global, selected}
 use Rattle.ax_selected.proofs.Lying.{globals_get}
 use Rattle.ax_meaning.specs.Lowering.{AgreesAlways, FollowingCodeLowers, IsHoused, fine_first, fine_start, framed, meaning_of}
 use Rattle.ax_meaning.proofs.Globals.{span_is}
-use Rattle.ax_image_rv.specs.Image.{AreExpanded, IsImageOf, RvImageLowers, area, home, is_fixed, is_living, room_start, rv_draft, rv_frames, rv_places, rv_program, rv_reading, rv_setting, stack_top}
+use Rattle.ax_image_rv.specs.Image.{AreExpanded, RvImageLowers, area, home, is_fixed, is_living, room_start, rv_draft, rv_frames, rv_image, rv_places, rv_program, rv_reading, rv_setting, stack_top}
+use Rattle.ax_image_rv.proofs.Entries.{entry_in, frame_in}
 use Rattle.ax_image_rv.proofs.First.{byte_past, byte_small, element_first}
 use Rattle.ax_image_rv.proofs.Ready.{line_ready}
 
@@ -151,8 +152,11 @@ bits_fit I64 h = refl
 bits_fit I128 h = refl
 bits_fit _ h = absurd (false≢true h)
 
-module _ (program : SourceProgram) (expansions : Op → Width → Order → Bool → Expansion) (most : ℕ) (image : Image RvInstr) (laws : Laws program expansions most) (accepted : IsAccepted program) (direct : needs_no_routine program ≡ true) (expanded : AreExpanded program expansions most) (is : IsImageOf program expansions image)
-    (entries : List ℕ) (are : AreEntriesOf program.source entries) where
+module _ (program : SourceProgram) (expansions : Op → Width → Order → Bool → Expansion) (most : ℕ) (laws : Laws program expansions most) (accepted : IsAccepted program) (direct : needs_no_routine program ≡ true) (expanded : AreExpanded program expansions most)
+    (short : length (rv_draft program expansions) + 1 < 2 ^ 32) (entries : List ℕ) (are : AreEntriesOf program.source entries) where
+  abbrev image : Image RvInstr
+  image = rv_image program expansions
+
   abbrev l : Meaning MidProcessor Shared
   l = meaning_of program rv_frames (rv_places program expansions)
 
@@ -177,7 +181,7 @@ module _ (program : SourceProgram) (expansions : Op → Width → Order → Bool
 
   follows : Follows l (rv_reading program expansions most) (rv_setting program expansions)
   follows =
-      laws.follows (based program) expansions most expanded.few (λ j line at. line_ready program expansions most expanded j line at (laws.small program accepted j line at)) (library_of rv_kind []) no_words (is_native_entry program) (is_native_entry program) is.short
+      laws.follows (based program) expansions most expanded.few (λ j line at. line_ready program expansions most expanded j line at (laws.small program accepted j line at)) (library_of rv_kind []) no_words (is_native_entry program) (is_native_entry program) short
 
   lawful : Lawful l (rv_reading program expansions most) (rv_setting program expansions)
   lawful = record {
@@ -279,7 +283,7 @@ module _ (program : SourceProgram) (expansions : Op → Width → Order → Bool
       in_one false false z h = absurd (false≢true h)
 
   entry_size : (p f : ℕ) → slice_get entries p ≡ Some f → slice_index_or sizes p 0 ≡ 98440
-  entry_size p f e = index_of_get sizes p (slice_index_or image.frames f 0) 0 (get_map (λ f. slice_index_or image.frames f 0) entries p ∙ ap (option_map (λ f. slice_index_or image.frames f 0)) e) ∙ is.frames f (are.each p f e)
+  entry_size p f e = index_of_get sizes p (slice_index_or image.frames f 0) 0 (get_map (λ f. slice_index_or image.frames f 0) entries p ∙ ap (option_map (λ f. slice_index_or image.frames f 0)) e) ∙ frame_in program expansions f (are.each p f e)
 
   sizes_long : (xs : List ℕ) → length (map (λ f. slice_index_or image.frames f 0) xs) ≡ length xs
   sizes_long [] = refl
@@ -339,7 +343,7 @@ module _ (program : SourceProgram) (expansions : Op → Width → Order → Bool
     where
       never : Rattle.ax_isa.specs.declared.cpu.Status.TheVariants.Ended ≡ Runs → ⊥
       never h = cc
-  place_is p (Some f) e r = is.entries f (are.each p f e) ∙ sym (settled_place (size_of (rv_program program) expansions) (code_of (rv_program program) expansions) labels_empty (selected program).lines 1 (behind f))
+  place_is p (Some f) e r = entry_in program expansions f (are.each p f e) ∙ sym (settled_place (size_of (rv_program program) expansions) (code_of (rv_program program) expansions) labels_empty (selected program).lines 1 (behind f))
 
   zeros : (a n : ℕ) → 16777216 ≤ a → number_at (first_byte program) a n ≡ 0
   zeros a zero high = refl
@@ -384,15 +388,5 @@ module _ (program : SourceProgram) (expansions : Op → Width → Order → Bool
   always : AgreesAlways (rv_setting program expansions) program entries m0
   always = laws.lowers follows lawful refl accepted direct entries inside w0 m0 entries_are housed starts
 
-  abbrev Agrees : List Event → List RvInstr → List Tag → List RoutineRange → Type 0
-  Agrees events code tags routines =
-      (let z = setting_of rv_kind code tags (library_of rv_kind routines) in Agree program (run z events m0) (source_run program (explain z given_of (tag_at tags) (is_native_entry program) events m0) (source_start program.source entries)))
-
-  agrees : (events : List Event) → Agrees events image.code image.tags image.routines
-  agrees events =
-      subst (λ (r : List RoutineRange). Agrees events image.code image.tags r) (sym is.routines)
-      (subst (λ (t : List Tag). Agrees events image.code t []) (sym is.tags)
-      (subst (λ (c : List RvInstr). Agrees events c (map (λ d. d.tag) (rv_draft program expansions)) []) (sym is.code) (always events)))
-
-pub image_lowers : (program : SourceProgram) (expansions : Op → Width → Order → Bool → Expansion) (most : ℕ) (image : Image RvInstr) → Laws program expansions most → RvImageLowers program expansions most image
-image_lowers program expansions most image laws accepted direct expanded is = record { agrees = λ entries are events. agrees program expansions most image laws accepted direct expanded is entries are events }
+pub image_lowers : (program : SourceProgram) (expansions : Op → Width → Order → Bool → Expansion) (most : ℕ) → Laws program expansions most → RvImageLowers program expansions most
+image_lowers program expansions most laws accepted direct expanded short = record { agrees = λ entries are events. always program expansions most laws accepted direct expanded short entries are events }

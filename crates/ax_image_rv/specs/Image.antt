@@ -3,6 +3,7 @@ use Rattle.std.specs.Prelude.{◌≡◌, ℕ, ◌+◌, ◌<◌, ◌≤◌, ◌^�
 use Rattle.ax_words.specs.declared.mark.Op.{Op}
 use Rattle.ax_words.specs.declared.order.Order.{Order}
 use Rattle.ax_words.specs.declared.width.Width.{Width}
+use Rattle.ax_module.specs.declared.module.Function.{Function}
 use Rattle.ax_source_run.specs.SourceState.{SourceProgram}
 use Rattle.ax_check.specs.Accepted.{IsAccepted}
 use Rattle.ax_isa.specs.declared.images.Image.{Image}
@@ -22,6 +23,7 @@ use Rattle.ax_expand.specs.Standing.{setting_by}
 use Rattle.ax_fine.specs.Fine.{Program}
 use Rattle.ax_fine.specs.Near.{on_bytes}
 use Rattle.ax_emit.specs.Images.{Drafted, code_in, image_of, places_of, reading_in, tags_in}
+use Rattle.ax_emit.specs.Sites.{ranges_from}
 use Rattle.ax_emit.specs.Touches.{IsSize}
 use Rattle.ax_emit_rv.specs.Code.{Expansion, cleared, code_of, load_in, size_of, store_in}
 use Rattle.ax_emit_rv.specs.Laws.{Accessed, Expanded, few_steps}
@@ -83,14 +85,35 @@ module _ (program : SourceProgram) (expansions : Op → Width → Order → Bool
   abbrev pub rv_places : ℕ → ℕ
   rv_places = places_of (size_of (rv_program program) expansions) (code_of (rv_program program) expansions) (selected program).lines
 
-  -- AN IMAGE of the module: its code and tags are those of the lines, each function is entered behind its first block's label, and has a frame; no routine is called
-  pub record IsImageOf (image : Image RvInstr) : Type 0 where
-    pub code : image.code ≡ code_in rv_draft
-    pub tags : image.tags ≡ map (λ d. d.tag) rv_draft
-    pub routines : image.routines ≡ []
-    pub entries : (f : ℕ) → f < length program.source.functions → slice_index_or image.entries f 0 ≡ rv_places (behind_label key (selected program).lines (block_label f 0) 0)
-    pub frames : (f : ℕ) → f < length program.source.functions → slice_index_or image.frames f 0 ≡ frame_size
-    pub short : length rv_draft + 1 < 2 ^ 32
+  -- a function is entered behind the label of its first block
+  abbrev pub entry_of : ℕ → ℕ
+  entry_of f = rv_places (behind_label key (selected program).lines (block_label f 0) 0)
+
+  -- that of function f and those behind it
+  abbrev pub entries_from : ℕ → List Function → List ℕ
+  entries_from f [] = []
+  entries_from f (function ∷ functions) = entry_of f ∷ entries_from (f + 1) functions
+
+  -- THE IMAGE of the module: the code, tags and sites of its lines, and for each function its entry and its frame; no routine is called
+  abbrev pub rv_image : Image RvInstr
+  rv_image = record {
+    code = code_in rv_draft;
+    tags = map (λ d. d.tag) rv_draft;
+    sites = ranges_from (size_of (rv_program program) expansions) 1 (selected program).lines;
+    routines = [];
+    entries = entries_from 0 program.source.functions;
+    frames = map (λ f. frame_size) program.source.functions;
+  }
+
+  -- its functions are entered there, and each has a frame
+  pub record HasEntries : Type 0 where
+    pub entry : (f : ℕ) → f < length program.source.functions → slice_index_or rv_image.entries f 0 ≡ entry_of f
+    pub frame : (f : ℕ) → f < length program.source.functions → slice_index_or rv_image.frames f 0 ≡ frame_size
+    pub entries : length rv_image.entries ≡ length program.source.functions
+    pub frames : length rv_image.frames ≡ length program.source.functions
+
+abbrev pub RvImagesHaveEntries : Type 0
+RvImagesHaveEntries = (program : SourceProgram) (expansions : Op → Width → Order → Bool → Expansion) → HasEntries program expansions
 
 -- the machine with that code, which calls no routine
 abbrev pub rv_setting : SourceProgram → (Op → Width → Order → Bool → Expansion) → Setting RvInstr
@@ -99,6 +122,16 @@ rv_setting program expansions = setting_by rv_kind (code_in (rv_draft program ex
 abbrev pub rv_reading : SourceProgram → (Op → Width → Order → Bool → Expansion) → ℕ → Reading
 rv_reading program expansions most = reading_in (rv_draft program expansions) (is_native_entry program) (is_native_entry program) most
 
--- IT LOWERS THE MODULE
-abbrev pub RvImageLowers : SourceProgram → (Op → Width → Order → Bool → Expansion) → ℕ → Image RvInstr → Type 0
-RvImageLowers program expansions most image = IsAccepted program → needs_no_routine program ≡ true → AreExpanded program expansions most → IsImageOf program expansions image → Lowers rv_kind image program
+-- IT LOWERS THE MODULE, where its places are numbers of 32 bits
+abbrev pub RvImageLowers : SourceProgram → (Op → Width → Order → Bool → Expansion) → ℕ → Type 0
+RvImageLowers program expansions most =
+    IsAccepted program → needs_no_routine program ≡ true → AreExpanded program expansions most → length (rv_draft program expansions) + 1 < 2 ^ 32 → Lowers rv_kind (rv_image program expansions) program
+
+abbrev pub RvImagesLower : Type 0
+RvImagesLower = (program : SourceProgram) (expansions : Op → Width → Order → Bool → Expansion) (most : ℕ) → RvImageLowers program expansions most
+
+-- a module with the code of its atomic operations, and so many idle steps in a row at most
+pub record RvModule : Type 0 where
+  pub program : SourceProgram
+  pub expansions : Op → Width → Order → Bool → Expansion
+  pub most : ℕ

@@ -1,5 +1,5 @@
 -- MODULES FOR RV64 WHOSE ATOMIC INSTRUCTIONS NEED NO LOOP, and their images.
-use Rattle.std.specs.Prelude.{◌≡◌, ℕ, Bool, true, false}
+use Rattle.std.specs.Prelude.{◌≡◌, ℕ, ◌+◌, ◌<◌, ◌^◌, Bool, true, false, ◌&&◌, List, length}
 use Rattle.std.specs.List.{list_all}
 use Rattle.ax_words.specs.declared.mark.Op.{Op}
 use Rattle.ax_words.specs.declared.mark.Op.TheVariants as op
@@ -18,10 +18,11 @@ use Rattle.ax_isa.specs.declared.images.Image.{Image}
 use Rattle.ax_agree.specs.Lowers.{Lowers}
 use Rattle.ax_rv.specs.declared.instructions.RvInstr.{RvInstr}
 use Rattle.ax_rv.specs.Instructions.{rv_kind}
+use Rattle.ax_emit.specs.Images.{Drafted}
 use Rattle.ax_emit_rv.specs.Code.{Expansion}
 use Rattle.ax_llsc.specs.Codes.{Atomic, expansion_of}
 use Rattle.ax_selected.specs.Direct.{needs_no_routine}
-use Rattle.ax_image_rv.specs.Image.{AreExpanded, IsImageOf}
+use Rattle.ax_image_rv.specs.Image.{AreExpanded, rv_draft, rv_image}
 
 -- ---- modules
 abbrev pub is_inline_way : Way → Bool
@@ -52,7 +53,22 @@ inline_steps = 28
 abbrev pub InlineModuleIsExpanded : SourceProgram → Type 0
 InlineModuleIsExpanded program = is_rv64 program.target ≡ true → IsAccepted program → is_inline_module program ≡ true → AreExpanded program (inline_expansions program.target) inline_steps
 
+abbrev pub InlineModulesAreExpanded : Type 0
+InlineModulesAreExpanded = (program : SourceProgram) → InlineModuleIsExpanded program
+
+-- such a module that calls no routine
+abbrev pub is_built : SourceProgram → Bool
+is_built program = is_rv64 program.target && needs_no_routine program && is_inline_module program
+
+abbrev pub inline_draft : SourceProgram → List (Drafted RvInstr)
+inline_draft program = rv_draft program (inline_expansions program.target)
+
+abbrev pub inline_image : SourceProgram → Image RvInstr
+inline_image program = rv_image program (inline_expansions program.target)
+
 -- AND SO ITS IMAGE LOWERS IT
-abbrev pub InlineImageLowers : SourceProgram → Image RvInstr → Type 0
-InlineImageLowers program image =
-    is_rv64 program.target ≡ true → IsAccepted program → needs_no_routine program ≡ true → is_inline_module program ≡ true → IsImageOf program (inline_expansions program.target) image → Lowers rv_kind image program
+abbrev pub InlineImageLowers : SourceProgram → Type 0
+InlineImageLowers program = is_built program ≡ true → IsAccepted program → length (inline_draft program) + 1 < 2 ^ 32 → Lowers rv_kind (inline_image program) program
+
+abbrev pub InlineImagesLower : Type 0
+InlineImagesLower = (program : SourceProgram) → InlineImageLowers program

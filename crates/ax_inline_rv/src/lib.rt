@@ -3,4 +3,4 @@
 
 pub mod laws;
 
-pub use laws::{InlineModule, inline_images_lower, inline_modules_are_expanded};
+pub use laws::{inline_images_lower, inline_modules_are_expanded};

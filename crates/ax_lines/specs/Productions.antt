@@ -110,7 +110,8 @@ path = do
 unfoldable pub pointer_behind : Grammar Pointer
 pointer_behind = option (w word.Getelementptr ∷ [])
     (do
-      passed pass.Path
+      maybe (w word.Inbounds ∷ [])
+      maybe (w word.Nuw ∷ [])
       signs (m mark.Open ∷ [])
       p ← path
       signs (m mark.Close ∷ [])

@@ -137,17 +137,17 @@ pub fn path(line: &[Symbol]) -> Option<(Path, &[Symbol])>
     Some((path, rest))
 }
 
-/// Behind `ptr`: `@g`, `%v`, or `getelementptr [inbounds] [nuw] ( GEP )`.
+/// Behind `ptr`: `@g`, `%v`, or `getelementptr [inbounds] [nuw] ( GEP )`, with each of the two words
+/// once at most and in this order (LLVM Language Reference, Constant Expressions).
 #[tactic(auto, unfolding(crate::specs::Productions::pointer_behind))]
 pub fn pointer_behind(line: &[Symbol]) -> Option<(Pointer, &[Symbol])>
     ensures { Gives (λ x. (x.0, x.1.now)) result (reads pointer_behind line.now) }
 {
     match strip(line, &[Sign::Word(Word::Getelementptr)]) {
         Some(rest) => {
-            let rest = strip(
-                pass_over(Pass::Path, rest),
-                &[Sign::Mark(Punctuation::Open)],
-            )?;
+            let (_, rest) = maybe(rest, &[Sign::Word(Word::Inbounds)]);
+            let (_, rest) = maybe(rest, &[Sign::Word(Word::Nuw)]);
+            let rest = strip(rest, &[Sign::Mark(Punctuation::Open)])?;
             let (path, rest) = path(rest)?;
             let rest = strip(rest, &[Sign::Mark(Punctuation::Close)])?;
             Some((Pointer::Element(path), rest))

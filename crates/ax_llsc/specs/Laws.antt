@@ -6,6 +6,7 @@ use Rattle.ax_words.specs.declared.width.Width.{Width}
 use Rattle.ax_words.specs.Orders.{is_legal}
 use Rattle.ax_words.specs.Width.{bytes_of}
 use Rattle.ax_target.specs.declared.decision.Way.TheVariants.{Inline}
+use Rattle.ax_target.specs.declared.target.Target.{Target}
 use Rattle.ax_target.specs.declared.target.Target.TheVariants.{Rv}
 use Rattle.ax_target.specs.Decisions.{decided}
 use Rattle.ax_target.specs.Rows.{access_of, row_of}
@@ -21,6 +22,7 @@ use Rattle.ax_emit.specs.Atomics.{Counted}
 use Rattle.ax_emit.specs.Touches.{IsSize}
 use Rattle.ax_fine.specs.Fine.{Program}
 use Rattle.ax_emit_rv.specs.Code.{Expansion, cleared, load_in, store_in}
+use Rattle.ax_emit_rv.specs.Emitters.{AreSteady}
 use Rattle.ax_emit_rv.specs.Laws.{Accessed, Expanded}
 use Rattle.ax_llsc.specs.Codes.{Atomic, Inlined, IsInlined, args_of, doing_of, expansion_of, registers_for, results_of}
 
@@ -55,3 +57,7 @@ abbrev pub PlainAccessesAreExpanded : {R : Type 0} → Program R Shared → Type
 PlainAccessesAreExpanded m =
     (zabha zacas : Bool) (n : ℕ) → IsSize n
     → (let shared = over_bytes zabha zacas m in Accessed shared (shared.load n) (load_in n) (cleared n) [] (7 ∷ []) × Accessed shared (shared.store n) (store_in n) [] (6 ∷ []) [])
+
+-- EACH CODE HAS ONE LENGTH, wherever it stands
+abbrev pub InlineCodeIsSteady : Type 0
+InlineCodeIsSteady = (target : Target) → AreSteady (λ o width order weak. expansion_of target (Atomic o width order weak))

@@ -7,7 +7,7 @@ ghost use Rattle.ax_rv.specs.Instructions.{rv_kind};
 ghost use Rattle.ax_rv.specs.declared.instructions.RvInstr.{RvInstr as Instr};
 ghost use Rattle.ax_target.specs.declared.target.Target.{Target};
 ghost use Rattle.ax_llsc.specs.Codes.{Inlined, rounding};
-ghost use Rattle.ax_llsc.specs.Laws.{InlineCodeExpands, InlineCodeHasRow, InlineCodeIsExpanded, InlineOperationIsCounted, PlainAccessesAreExpanded};
+ghost use Rattle.ax_llsc.specs.Laws.{InlineCodeExpands, InlineCodeHasRow, InlineCodeIsExpanded, InlineCodeIsSteady, InlineOperationIsCounted, PlainAccessesAreExpanded};
 ghost use Rattle.ax_llsc.specs.Rounds.{Standing, unfinished, wrapping_at};
 
 use ax_expand::{AccessOnMachine, WrappedOperation, one_access_follows, wrapped_code_follows};
@@ -61,13 +61,16 @@ pub trait ProgramOnBytes {
     /// A register of middle code.
     ghost Register: { Type 0 };
 
-    ghost program: { Program Register Shared };
+    /// Which program it is, where there are several.
+    ghost Case: { Type 0 };
+
+    ghost program: { Case → Program Register Shared };
 }
 
 /// Emission can take this code: it is what emission asks of the code of an atomic operation in a
 /// line of middle code over the bytes that all processors share.
 pub fn inline_code_is_expanded<M: ProgramOnBytes>()
-    ensures { InlineCodeIsExpanded M.program }
+    ensures { (case : M.Case) → InlineCodeIsExpanded (M.program case) }
 {
     inline_code_expands();
 }
@@ -75,7 +78,12 @@ pub fn inline_code_is_expanded<M: ProgramOnBytes>()
 /// Emission's own instructions for plain loads and stores of 1, 2, 4 and 8 bytes, with what clears the
 /// upper bits of a loaded word, meet their contracts over the bytes that all processors share.
 pub fn plain_accesses_are_expanded<M: ProgramOnBytes>()
-    ensures { PlainAccessesAreExpanded M.program }
+    ensures { (case : M.Case) → PlainAccessesAreExpanded (M.program case) }
 {
     inline_code_expands();
 }
+
+/// The code of an operation has one length, wherever it stands.
+pub fn inline_code_is_steady()
+    ensures { InlineCodeIsSteady }
+{}

@@ -2,7 +2,11 @@
 #![tactic(auto)]
 
 mod laws;
+mod operations;
+mod table;
 
 pub use laws::{
-    ProgramOnBytes, inline_code_expands, inline_code_is_expanded, plain_accesses_are_expanded,
+    ProgramOnBytes, inline_code_expands, inline_code_is_expanded, inline_code_is_steady,
+    plain_accesses_are_expanded,
 };
+pub use operations::InlineOperations;

@@ -23,20 +23,23 @@ use std::marker::PhantomData;
 pub trait FollowingCode {
     type Instr;
 
+    /// Which code it is, where there are several.
+    ghost Case: { Type 0 };
+
     /// The machine with its code and tags.
-    ghost setting: { Setting Self.Instr };
+    ghost setting: { Case → Setting Self.Instr };
 
     /// Which step makes which event.
-    ghost reading: { Reading };
+    ghost reading: { Case → Reading };
 
     /// The module, its layout and its target.
-    ghost program: { SourceProgram };
+    ghost program: { Case → SourceProgram };
 
     /// Where the frames lie.
-    ghost frames: { Frames };
+    ghost frames: { Case → Frames };
 
     /// Where the code of each line of the selected code begins.
-    ghost places: { ℕ → ℕ };
+    ghost places: { Case → ℕ → ℕ };
 }
 
 /// Machine code, as code that means the fine middle run.
@@ -51,9 +54,11 @@ impl<C: FollowingCode> MeantCode for Following<C> {
 
     ghost World = { Shared };
 
+    ghost Case = { C.Case };
+
     ghost setting = { C.setting };
 
-    ghost meaning = { meaning_of C.program C.frames C.places };
+    ghost meaning = { λ case. meaning_of (C.program case) (C.frames case) (C.places case) };
 
     ghost reading = { C.reading };
 }
@@ -62,7 +67,7 @@ impl<C: FollowingCode> MeantCode for Following<C> {
 /// its selected code lowers it. After every list of events from all entries the machine agrees with the
 /// source machine under the explanation by the public tags.
 pub fn following_code_lowers<C: FollowingCode>()
-    ensures { FollowingCodeLowers C.setting C.reading C.program C.frames C.places }
+    ensures { (case : C.Case) → FollowingCodeLowers (C.setting case) (C.reading case) (C.program case) (C.frames case) (C.places case) }
 {
     code_in_step_runs_in_step::<Following<C>>();
     fine_machine_runs_in_step::<Virtual>();

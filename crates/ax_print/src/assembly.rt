@@ -5,7 +5,7 @@ ghost use Rattle.ax_print.specs.Assembly.{tag_text, entry_line, entry_lines, sit
 
 use crate::instructions::push_instr;
 use ax_isa::{Role, RoutineRange, SiteRange, Tag};
-use ax_lower::{Lowered, Name};
+use ax_lowered::{Lowered, Name};
 use ax_rv::RvInstr;
 use ax_words::RoutineName;
 use std::alloc::{AllocError, Global};

@@ -5,7 +5,7 @@ ghost use Rattle.ax_print.specs.Report.{head_lines, output_line, object_line, he
 
 use crate::lines::push_events;
 use ax_isa::Status;
-use ax_lower::Name;
+use ax_module::Name;
 use ax_words::{Event, SourceEvent};
 use std::alloc::AllocError;
 

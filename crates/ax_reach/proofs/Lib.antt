@@ -2,3 +2,4 @@ mod Indexes
 mod Tables
 mod Bounds
 mod Pieces
+mod Reached

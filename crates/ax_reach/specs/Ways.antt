@@ -27,24 +27,19 @@ abbrev pub guard : ℕ → ℕ → List (Line Virtual)
 guard f k =
     silent f k (mid.Branch (virtual 2) (second_label f k) (first_label f k)) ∷ silent f k (mid.Label (first_label f k)) ∷ acting f k mid.Trap ∷ silent f k (mid.Label (second_label f k)) ∷ []
 
--- an index that is brought is tested
-abbrev pub brought_way : ℕ → ℕ → List (MidInst Virtual) → ℕ → MidInst Virtual → ℕ → List (Line Virtual)
-brought_way f k lines count first bytes = map (silent f k) lines ++ map (silent f k) (compared f k count) ++ guard f k ++ map (silent f k) (found f k first bytes)
-
 module _ (program : SourceProgram) (f k : ℕ) (object : Object) where
-  -- a fixed index that lies past the last element traps
+  -- the index in register 1 is tested, and the element's address comes into register 0
+  abbrev pub tested_way : List (Line Virtual)
+  tested_way = map (silent f k) (compared f k (count_of program f object)) ++ guard f k ++ map (silent f k) (found f k (address_of program f object 0) (bytes_of program f object))
+
+  -- so is a fixed index that lies past the last element
   abbrev pub fixed_way : Bool → ℕ → List (Line Virtual)
   fixed_way true i = silent f k (address_of program f object i) ∷ []
-  fixed_way false i = acting f k mid.Trap ∷ []
+  fixed_way false i = silent f k (mid.Const (virtual 1) i) ∷ tested_way
 
   abbrev pub way : IndexAt → List (Line Virtual)
   way (Fixed i) = fixed_way (nat_lt i (count_of program f object)) i
-  way (Brought lines) = brought_way f k lines (count_of program f object) (address_of program f object 0) (bytes_of program f object)
-
-  -- whether the access follows
-  abbrev pub goes_on : IndexAt → Bool
-  goes_on (Fixed i) = nat_lt i (count_of program f object)
-  goes_on (Brought lines) = true
+  way (Brought lines) = map (silent f k) lines ++ tested_way
 
 -- a number of 128 bits in registers 3 and 4 is stored
 abbrev pub wide_store : Straight

@@ -52,8 +52,8 @@ fn is_narrow(ty: Ty) -> bool
     bits(ty) <= 64
 }
 
-/// The width of a type's atomic accesses.
-fn width_of(ty: Ty) -> Width
+/// The width of the atomic accesses of a type.
+pub fn width_of(ty: Ty) -> Width
     ensures { result ≡ width_of ty }
 {
     match ty {

@@ -10,6 +10,6 @@ pub mod pointing;
 pub mod pushing;
 pub mod ways;
 
-pub use access::Exchange;
+pub use access::{Exchange, width_of};
 pub use laws::pieces_are_reached;
 pub use pointers::Pointers;

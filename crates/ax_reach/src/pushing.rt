@@ -20,6 +20,7 @@ use std::alloc::{AllocError, Global};
 
 impl<'a> Pointers<'a> {
     /// The code of instruction `k`, an access through a pointer.
+    #[tactic(auto, using(crate::proofs::Reached::through_is))]
     fn push_reach(
         &self,
         alloc: Global,
@@ -35,11 +36,8 @@ impl<'a> Pointers<'a> {
     {
         let to = self.pointing(addr);
         let bytes = self.extent(to.object).elem.bytes() as u8;
-        if self.push_way(code, k, to)? {
-            push_lines(alloc, code, self.site(k), access, bytes)
-        } else {
-            Ok(())
-        }
+        self.push_way(code, k, to)?;
+        push_lines(alloc, code, self.site(k), access, bytes)
     }
 
     /// The code of instruction `k`, a plain load (LLVM Language Reference, `load`). It fails only where

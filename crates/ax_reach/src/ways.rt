@@ -1,13 +1,13 @@
 //! The way to an element: the test of its index, and its address into register 0.
 
-ghost use Rattle.std.specs.Prelude.{◌≡◌, ◌<◌, IfOk, OnOk, map};
+ghost use Rattle.std.specs.Prelude.{◌≡◌, ◌<◌, OnOk, map};
 ghost use Rattle.ax_mid.specs.Built.{pushed};
 ghost use Rattle.ax_selected.specs.Addresses.{Fixed};
 ghost use Rattle.ax_selected.specs.Registers.{first_label, second_label};
 ghost use Rattle.ax_selected.specs.Selected.{compared, found, silent as silent_line};
 ghost use Rattle.ax_reach.specs.Near.{IsNearIndex, IsNearOrigin};
 ghost use Rattle.ax_reach.specs.Places.{index_of, lines_of, object_of};
-ghost use Rattle.ax_reach.specs.Ways.{brought_way, goes_on, guard, way};
+ghost use Rattle.ax_reach.specs.Ways.{guard, tested_way, way};
 
 use crate::place::{Index, Object, Origin, Pointing};
 use crate::pointers::Pointers;
@@ -103,65 +103,47 @@ fn push_found(
     )
 }
 
-/// The way to the element of an object whose index is a result: by the count of its elements, the
-/// line that brings the address of the first, and the bytes of each.
-fn push_brought(
-    code: &mut Code,
-    site: Site,
-    origin: Origin,
-    count: u64,
-    first: MidInst<Virtual>,
-    bytes: u64,
-) -> Result<(), AllocError>
-    requires function { site.function < 64 }
-    requires near { site.instruction < 2048 }
-    requires origin { IsNearOrigin origin }
-    ensures { OnOk result (code.new ≡ pushed (brought_way site.function site.instruction (lines_of origin) count first bytes) code.old) }
-{
-    push_origin(code, site, origin)?;
-    push_compared(code, site, count)?;
-    push_guard(code, site)?;
-    push_found(code, site, first, bytes)
-}
-
 impl<'a> Pointers<'a> {
-    /// The way to the element of an object whose index is fixed, or a trap where there is none.
-    fn push_fixed(
-        &self,
-        code: &mut Code,
-        k: u32,
-        object: Object,
-        i: u64,
-    ) -> Result<bool, AllocError>
-        ensures way { OnOk result (code.new ≡ pushed (way self.now.program self.now.function k (object_of object) (Fixed i)) code.old) }
-        ensures goes_on { IfOk result (λ b. b ≡ goes_on self.now.program self.now.function k (object_of object) (Fixed i)) }
+    /// The way to the element of an object whose index is in register 1, and a trap before it where
+    /// there is none.
+    fn push_tested(&self, code: &mut Code, k: u32, object: Object) -> Result<(), AllocError>
+        requires { k < 2048 }
+        ensures { OnOk result (code.new ≡ pushed (tested_way self.now.program self.now.function k (object_of object)) code.old) }
+    {
+        let site = self.site(k);
+        let extent = self.extent(object);
+        let first = self.address(object, 0);
+        push_compared(code, site, extent.count)?;
+        push_guard(code, site)?;
+        push_found(code, site, first, extent.elem.bytes())
+    }
+
+    /// The way to the element of an object whose index is fixed. An index that lies past the last
+    /// element is tested as one in a register is, so that the access has its lines there too.
+    fn push_fixed(&self, code: &mut Code, k: u32, object: Object, i: u64) -> Result<(), AllocError>
+        requires { k < 2048 }
+        ensures { OnOk result (code.new ≡ pushed (way self.now.program self.now.function k (object_of object) (Fixed i)) code.old) }
     {
         let site = self.site(k);
         if i < self.extent(object).count {
-            silent(code, site, self.address(object, i))?;
-            Ok(true)
+            silent(code, site, self.address(object, i))
         } else {
-            acting(code, site, MidInst::Trap)?;
-            Ok(false)
+            silent(code, site, MidInst::Const(Virtual(1), i))?;
+            self.push_tested(code, k, object)
         }
     }
 
-    /// The way to the element to which a pointer points, and whether the access follows: it doesn't
-    /// where the text fixes an index that lies past the last element.
-    pub(crate) fn push_way(&self, code: &mut Code, k: u32, to: Pointing) -> Result<bool, AllocError>
+    /// The way to the element to which a pointer points; the lines of the access follow.
+    pub(crate) fn push_way(&self, code: &mut Code, k: u32, to: Pointing) -> Result<(), AllocError>
         requires near { k < 2048 }
         requires index { IsNearIndex to.index }
-        ensures way { OnOk result (code.new ≡ pushed (way self.now.program self.now.function k (object_of to.object) (index_of to.index)) code.old) }
-        ensures goes_on { IfOk result (λ b. b ≡ goes_on self.now.program self.now.function k (object_of to.object) (index_of to.index)) }
+        ensures { OnOk result (code.new ≡ pushed (way self.now.program self.now.function k (object_of to.object) (index_of to.index)) code.old) }
     {
         match to.index {
             Index::Fixed(i) => self.push_fixed(code, k, to.object, i),
             Index::Brought(origin) => {
-                let extent = self.extent(to.object);
-                let first = self.address(to.object, 0);
-                let bytes = extent.elem.bytes();
-                push_brought(code, self.site(k), origin, extent.count, first, bytes)?;
-                Ok(true)
+                push_origin(code, self.site(k), origin)?;
+                self.push_tested(code, k, to.object)
             }
         }
     }

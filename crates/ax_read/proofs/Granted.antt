@@ -223,7 +223,8 @@ module _ {text : List ℕ} where
   pub pointer_behind_is : Grants text pointer_behind SoundPointer
   unfolding pointer_behind
   pointer_behind_is = option_is (do
-    passed_pass
+    maybe_pass
+    maybe_pass
     signs_pass
     p ← path_is
     signs_pass

@@ -1,2 +1,4 @@
 pub mod Telling
 pub mod Starting
+pub mod Elements
+pub mod Reading

@@ -20,10 +20,9 @@ use Rattle.ax_isa.specs.Run.{Machine, Setting, after_step, done, drain_events, e
 use Rattle.ax_isa.specs.Tells.{Done, Library, given_of}
 use Rattle.ax_follow.proofs.Flat.{happens_keeps, sent_none}
 use Rattle.ax_follow.proofs.Runs.{step_gives}
-use Rattle.ax_agree.specs.Library.{library_of}
+use Rattle.ax_agree.specs.Library.{image_setting, library_of}
 use Rattle.ax_rv.specs.declared.instructions.RvInstr.{RvInstr}
 use Rattle.ax_rv.specs.Instructions.{rv_kind}
-use Rattle.ax_lower.specs.Settings.{rv_setting}
 use Rattle.ax_run.specs.Machine.{MachineState, Shows, Tells, Advanced, counted, cpu_in, passed, processor_in, retired_in, stored}
 
 module _ (x : Setting RvInstr) where
@@ -60,7 +59,7 @@ silent x counts Stuck p m h = refl
 
 module _ (start : Machine) (old : MachineState) (p : ℕ) (known : p < length old.processors) (told : Tells start old) where
   abbrev x : Setting RvInstr
-  x = rv_setting old.image
+  x = image_setting rv_kind old.image
 
   abbrev now : Machine
   now = run x old.events start
@@ -75,7 +74,7 @@ module _ (start : Machine) (old : MachineState) (p : ℕ) (known : p < length ol
     -- one event more, of which the state is what the run has it
     telling : (e : Event) → new.image ≡ old.image → new.events ≡ old.events ++ e ∷ [] → ((counts : Entry → Bool) → new.sources ≡ old.sources ++ explained x given_of x.tags counts e now) → Shows new (happens x e now) → Tells start new
     telling e image events sources shows =
-        let F : Image RvInstr → List Event → Type 0 = λ i es. ((counts : Entry → Bool) → new.sources ≡ explain (rv_setting i) given_of (rv_setting i).tags counts es start) × Shows new (run (rv_setting i) es start) × ((q : ℕ) → (run (rv_setting i) es start).noted.storage.waiting q ≡ []) in
+        let F : Image RvInstr → List Event → Type 0 = λ i es. ((counts : Entry → Bool) → new.sources ≡ explain (image_setting rv_kind i) given_of (image_setting rv_kind i).tags counts es start) × Shows new (run (image_setting rv_kind i) es start) × ((q : ℕ) → (run (image_setting rv_kind i) es start).noted.storage.waiting q ≡ []) in
         let all : F old.image (old.events ++ e ∷ []) = (
           λ counts. sources counts ∙ ap (λ l. l ++ explained x given_of x.tags counts e now) (told.sources counts) ∙ sym (explain_more x counts old.events e start),
           subst (Shows new) (sym (run_more x old.events e start)) shows,

@@ -1,5 +1,6 @@
 pub mod MachineState
 pub mod Machine
+pub mod Objects
 pub mod Start
 pub mod RunState
 pub mod Run

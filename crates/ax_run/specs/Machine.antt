@@ -1,6 +1,6 @@
 -- When a machine shows a state of the machine run, and when what it wrote down tells the run from a start.
 pub use Rattle.ax_run.specs.MachineState.{MachineState, IsReady}
-use Rattle.std.specs.Prelude.{◌≡◌, ℕ, ◌+◌, ◌-◌, ◌<◌, Bool, false, List, [], ◌∷◌, ◌++◌, length, option_to_list, slice_index_or, slice_set}
+use Rattle.std.specs.Prelude.{◌≡◌, ℕ, ◌+◌, ◌-◌, ◌<◌, Bool, false, [], ◌∷◌, ◌++◌, length, option_to_list, slice_index_or, slice_set}
 use Rattle.ax_words.specs.declared.event.Event.{Event}
 use Rattle.ax_words.specs.declared.event.Event.TheVariants.{Step}
 use Rattle.ax_store.specs.declared.entry.Entry.{Entry}
@@ -15,8 +15,8 @@ use Rattle.ax_isa.specs.Processor.{Processor, processor_of}
 use Rattle.ax_isa.specs.Run.{Machine, outputs_of, tag_at, run, explain}
 use Rattle.ax_isa.specs.Stepping.{IsStepAt}
 use Rattle.ax_isa.specs.Tells.{given_of}
+use Rattle.ax_agree.specs.Library.{image_setting}
 use Rattle.ax_rv.specs.Instructions.{rv_kind}
-use Rattle.ax_lower.specs.Settings.{rv_setting}
 
 -- past the last processor there is one that has ended
 abbrev pub idle : Cpu
@@ -41,10 +41,10 @@ pub record Shows (r : MachineState) (m : Machine) : Type 0 where
 -- A MACHINE TELLS THE RUN of its image over its events from a start, and the source events that explain it
 pub record Tells (start : Machine) (r : MachineState) : Type 0 where
   -- without buffers it is all the same which stores are source events
-  pub sources : (counts : Entry → Bool) → r.sources ≡ explain (rv_setting r.image) given_of (tag_at r.image.tags) counts r.events start
-  pub shows : Shows r (run (rv_setting r.image) r.events start)
+  pub sources : (counts : Entry → Bool) → r.sources ≡ explain (image_setting rv_kind r.image) given_of (tag_at r.image.tags) counts r.events start
+  pub shows : Shows r (run (image_setting rv_kind r.image) r.events start)
   -- and no store waits
-  pub flat : (q : ℕ) → (run (rv_setting r.image) r.events start).noted.storage.waiting q ≡ []
+  pub flat : (q : ℕ) → (run (image_setting rv_kind r.image) r.events start).noted.storage.waiting q ≡ []
 
 -- through a call it goes on telling the run of whatever start it told
 abbrev pub GoesOn : MachineState → MachineState → Type 0

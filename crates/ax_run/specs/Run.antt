@@ -4,20 +4,18 @@ use Rattle.std.specs.Prelude.{◌≡◌, ◌≤◌, Bool, true, false, List, [],
 use Rattle.std.specs.List.{sum_by}
 use Rattle.ax_words.specs.declared.event.Event.{Event}
 use Rattle.ax_isa.specs.declared.images.Image.{Image}
-use Rattle.ax_store.specs.declared.entry.Entry.{Entry}
-use Rattle.ax_isa.specs.Run.{Machine, explain, tag_at}
-use Rattle.ax_isa.specs.Tells.{given_of}
+use Rattle.ax_isa.specs.Run.{Machine}
 use Rattle.ax_rv.specs.declared.instructions.RvInstr.{RvInstr}
-use Rattle.ax_first.specs.declared.first.First.{First}
+use Rattle.ax_rv.specs.Instructions.{rv_kind}
+use Rattle.ax_source_run.specs.SourceState.{SourceProgram}
 use Rattle.ax_sched.specs.declared.plan.Plan.{Plan}
 use Rattle.ax_sched.specs.Events.{events_of}
 use Rattle.ax_sched.specs.Plan.{IsPlan, times_of}
-use Rattle.ax_lower.specs.FirstLowers.{start_of, run_of}
-use Rattle.ax_lower.specs.Settings.{rv_setting}
+use Rattle.ax_agree.specs.Lowers.{explanation, machine_begins, machine_run}
 use Rattle.ax_run.specs.Machine.{Shows, Tells}
 
 -- the run of an image of a program over a plan
-pub record IsOf (image : Image RvInstr) (program : First) (plan : Plan) (r : RunState) : Type 0 where
+pub record IsOf (image : Image RvInstr) (program : SourceProgram) (plan : Plan) (r : RunState) : Type 0 where
   pub image_is : r.machine.image ≡ image
   pub program_is : r.program ≡ program
   pub plan_is : r.plan ≡ plan
@@ -25,8 +23,8 @@ pub record IsOf (image : Image RvInstr) (program : First) (plan : Plan) (r : Run
 -- WHAT AN ENDED RUN TELLS, on a machine without buffers: the events, the source events that explain them, and the state after them
 pub record HasRun (r : RunState) : Type 0 where
   pub machine_schedule : r.machine.events ≡ events_of false r.plan
-  pub source_schedule : (counts : Entry → Bool) → r.machine.sources ≡ explain (rv_setting r.machine.image) given_of (tag_at r.machine.image.tags) counts (events_of false r.plan) (start_of r.machine.image r.program r.plan.entries)
-  pub shows : Shows r.machine (run_of r.machine.image r.program r.plan.entries (events_of false r.plan))
+  pub source_schedule : r.machine.sources ≡ explanation rv_kind r.machine.image r.program r.plan.entries (events_of false r.plan)
+  pub shows : Shows r.machine (machine_run rv_kind r.machine.image r.program r.plan.entries (events_of false r.plan))
 
 -- a reader's answer is that of each state which the run shows
 abbrev pub Reads : {A : Type 0} → RunState → (Machine → A) → A → Type 0
@@ -39,8 +37,8 @@ so_far true plan = events_of false plan
 
 -- what every run keeps
 pub record IsSoundRun (r : RunState) : Type 0 where
-  pub plan : IsPlan (length r.program.functions) r.plan
+  pub plan : IsPlan (length r.program.source.functions) r.plan
   pub count : length r.machine.processors ≡ length r.plan.entries
   pub events : r.machine.events ≡ so_far r.ended r.plan
-  pub tells : Tells (start_of r.machine.image r.program r.plan.entries) r.machine
+  pub tells : Tells (machine_begins rv_kind r.machine.image r.program r.plan.entries) r.machine
   pub room : r.ended ≡ false → sum_by times_of r.plan.items ≤ r.machine.room

@@ -1,11 +1,11 @@
 -- What contracts see of a run.
 use Rattle.std.specs.Prelude.{Bool}
-use Rattle.ax_first.specs.declared.first.First.{First}
+use Rattle.ax_source_run.specs.SourceState.{SourceProgram}
 use Rattle.ax_sched.specs.declared.plan.Plan.{Plan}
 use Rattle.ax_run.specs.MachineState.{MachineState}
 
 pub record RunState : Type 0 where
-  pub program : First
+  pub program : SourceProgram
   pub plan : Plan
   pub machine : MachineState
   pub ended : Bool

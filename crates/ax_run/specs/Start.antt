@@ -1,8 +1,9 @@
 -- What a machine begins with.
-use Rattle.std.specs.Prelude.{false, ℕ, ◌+◌, ◌-◌, ◌*◌, ◌/◌, ◌%◌, ◌&&◌, if◌then◌else◌, nat_le, nat_lt, List, [], ◌∷◌, None, map, replicate, slice_index_or, slice_set}
-use Rattle.ax_store.specs.Bytes.{byte_of}
+use Rattle.std.specs.Prelude.{false, ℕ, ◌+◌, ◌-◌, ◌*◌, ◌/◌, ◌%◌, if◌then◌else◌, List, [], ◌∷◌, None, map, replicate, slice_index_or, slice_set}
+use Rattle.ax_store.specs.Bytes.{byte_of, covers}
 use Rattle.ax_store.specs.Regions.{in_regions}
 use Rattle.ax_store.specs.Storage.{Storage}
+use Rattle.ax_layout.specs.declared.span.Span.{Span}
 use Rattle.ax_isa.specs.declared.cpu.Cpu.{Cpu}
 use Rattle.ax_tags.specs.declared.tags.Role.TheVariants.{None as Outside}
 use Rattle.ax_isa.specs.declared.cpu.Status.TheVariants.{Running}
@@ -21,10 +22,11 @@ cpus_from places p (f ∷ entries) = first_cpu p (slice_index_or places f 0) ∷
 abbrev pub frames_for : List ℕ → List ℕ → List ℕ
 frames_for frames entries = map (λ f. slice_index_or frames f 0) entries
 
--- the bytes of the first k globals
-abbrev pub bytes_of : List ℕ → ℕ → ℕ → ℕ
-bytes_of globals k a = if nat_le 65536 a && nat_lt a (65536 + 8 * k) then byte_of (slice_index_or globals ((a - 65536) / 8) 0) ((a - 65536) % 8) else 0
+-- memory where the first n elements of a global have these numbers
+abbrev pub elements_put : Span → ℕ → (ℕ → ℕ) → (ℕ → ℕ) → ℕ → ℕ
+elements_put span n numbers mem a =
+    if covers span.start (n * span.bytes) a then byte_of (numbers ((a - span.start) / span.bytes)) ((a - span.start) % span.bytes) else mem a
 
--- where the first k globals hold their numbers, and all other bytes are 0
-abbrev pub storage_with : ℕ → List ℕ → List ℕ → ℕ → Storage
-storage_with end frames globals k = record { inside = in_regions end frames; mem = bytes_of globals k; waiting = λ p. []; linked = λ p. None }
+-- a storage with these frames and this memory, where no store waits and no reservation stands
+abbrev pub storage_with : ℕ → List ℕ → (ℕ → ℕ) → Storage
+storage_with end frames mem = record { inside = in_regions end frames; mem = mem; waiting = λ p. []; linked = λ p. None }

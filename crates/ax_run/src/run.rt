@@ -1,23 +1,24 @@
 //! Runs of lowered programs.
 
-ghost use Rattle.std.specs.Prelude.{◌≡◌, ◌<◌, ◌≤◌, ◌+◌, ◌*◌, IfOk, Some, false, length, true};
+ghost use Rattle.std.specs.Prelude.{◌≡◌, ◌<◌, ◌≤◌, IfOk, false, length, true};
 ghost use Rattle.std.specs.List.{sum_by};
+ghost use Rattle.ax_layout.specs.Classes.{lock_word};
+ghost use Rattle.ax_layout.specs.Layout.{HasElement};
 ghost use Rattle.ax_store.specs.Bytes.{number_at};
-ghost use Rattle.ax_lower.specs.Layout.{HasElement};
-ghost use Rattle.ax_first.specs.WellFormed.{IsFirst, IsWithinLimits};
 ghost use Rattle.ax_sched.specs.Plan.{IsPlan, times_of};
-ghost use Rattle.ax_lower.specs.Layout.{address_of};
 ghost use Rattle.ax_agree.specs.Agree.{native_entries};
 ghost use Rattle.ax_agree.specs.Sound.{IsSound};
-ghost use Rattle.ax_source_run.specs.SourceState.{SourceProgram};
 ghost use Rattle.ax_rv.specs.Instructions.{IsInstr, rv_kind};
+ghost use Rattle.ax_run.specs.Objects.{object_in};
 ghost use Rattle.ax_run.specs.Run.{HasRun, IsOf, Reads};
 
 use crate::machine::Machine;
+use crate::memory::lock_word;
+use crate::objects::object_in;
 use crate::start::start;
-use ax_first::First;
+use ax_check::Accepted;
 use ax_isa::Status;
-use ax_lower::Lowered;
+use ax_lowered::Lowered;
 use ax_sched::{Item, Plan};
 use ax_words::{Event, SourceEvent};
 use std::alloc::{AllocError, Global};
@@ -27,7 +28,7 @@ use std::marker::Model;
 /// machine, its outputs, and the source events that the tags of its image give.
 #[derive(Drop)]
 pub struct Run<'a> {
-    program: &'a First,
+    program: &'a Accepted,
     plan: &'a Plan,
     machine: Machine<'a>,
     ended: bool,
@@ -53,19 +54,19 @@ fn total(items: &[Item]) -> u64
     items.iter().map(|item| item.times()).sum()
 }
 
-/// A run of a lowered program before its first event. It takes all memory of the run, and fails
-/// only where there is none.
+/// A run of the image of an accepted module before its first event. It takes all memory of the run,
+/// and fails only where there is none.
+///
+/// The image is sound and has the module's functions, and the plan is one of the module.
 pub fn prepare<'a>(
     alloc: Global,
     l: &'a Lowered,
-    program: &'a First,
+    program: &'a Accepted,
     plan: &'a Plan,
 ) -> Result<Run<'a>, AllocError>
-    requires program { IsFirst program.now }
-    requires limits { IsWithinLimits program.now }
     requires sound { IsSound rv_kind IsInstr l.now.names l.now.image }
-    requires functions { length l.now.names ≡ length program.now.functions }
-    requires plan { IsPlan (length program.now.functions) plan.now }
+    requires functions { length l.now.names ≡ length program.now.source.functions }
+    requires plan { IsPlan (length program.now.source.functions) plan.now }
     ensures of { IfOk result (IsOf l.entry.now.image program.entry.now plan.entry.now) }
     ensures begins { IfOk result (λ r. r.ended ≡ false) }
 {
@@ -101,12 +102,13 @@ impl<'a> Run<'a> {
         self.machine.outputs.as_slice()
     }
 
-    /// The number of an element of a global, which has one, its element 0.
+    /// The number of element i of global g, which there is, in memory. None exactly where the
+    /// element is locked and its lock word in memory is not 0.
     pub fn object(&self, g: u32, i: u64) -> Option<u128>
-        requires { HasElement self.now.program g i }
-        ensures { Reads self.now (λ m. Some (number_at m.noted.storage.mem (address_of g) 8)) result }
+        requires { HasElement self.now.program.layout g i }
+        ensures { Reads self.now (λ m. object_in self.now.program m.noted.storage.mem g i) result }
     {
-        Some(self.machine.store.load(0, 0x1_0000 + 8 * g as u64, 8))
+        object_in(self.program, &self.machine.store, g, i)
     }
 
     /// What a processor is doing.
@@ -144,7 +146,7 @@ impl<'a> Run<'a> {
     /// How many stores of a processor to native objects wait: none, as no store waits on RV64.
     pub fn pending(&self, p: u8) -> u64
         requires { p < length self.now.machine.processors }
-        ensures { (of : SourceProgram) → Reads self.now (λ m. length (native_entries of (m.noted.storage.waiting p))) result }
+        ensures { Reads self.now (λ m. length (native_entries self.now.program (m.noted.storage.waiting p))) result }
     {
         self.machine.store.pending(p) as u64
     }
@@ -152,9 +154,9 @@ impl<'a> Run<'a> {
     /// The word of lock i, of 256.
     pub fn lock_word(&self, i: u32) -> u32
         requires { i < 256 }
-        ensures { Reads self.now (λ m. number_at m.noted.storage.mem (32768 + 64 * i) 4) result }
+        ensures { Reads self.now (λ m. number_at m.noted.storage.mem (lock_word i) 4) result }
     {
-        self.machine.store.load(0, 0x8000 + 64 * i as u64, 4) as u32
+        lock_word(&self.machine.store, i)
     }
 
     /// The source events that explain the run.

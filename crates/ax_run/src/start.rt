@@ -1,17 +1,18 @@
 //! What a run begins with: processors, storage, and room for its events.
 
-ghost use Rattle.std.specs.Prelude.{◌≡◌, ◌<◌, ◌≤◌, ◌+◌, ◌*◌, ◌/◌, All, IfOk, [], false, length};
+ghost use Rattle.std.specs.Prelude.{◌≡◌, ◌<◌, ◌≤◌, All, IfOk, [], false, length};
 ghost use Rattle.ax_store.specs.Regions.{IsFrameSize, IsProcessorCount};
 ghost use Rattle.ax_store.specs.Store.{processors, storage_of};
-ghost use Rattle.ax_first.specs.WellFormed.{AreEntries, IsFirst, IsWithinLimits};
-ghost use Rattle.ax_lower.specs.FirstLowers.{start_of};
+ghost use Rattle.ax_agree.specs.Lowers.{AreEntriesOf, first_byte, machine_begins, region_end};
 ghost use Rattle.ax_agree.specs.Sound.{HasFunctions, IsSoundCode};
 ghost use Rattle.ax_rv.specs.Instructions.{IsInstr, rv_kind};
 ghost use Rattle.ax_run.specs.Machine.{Tells};
 ghost use Rattle.ax_run.specs.Start.{cpus_from, first_cpu, frames_for, storage_with};
 
+use crate::globals::store_globals;
 use crate::machine::Machine;
-use ax_first::First;
+use ax_check::Accepted;
+use ax_check::laws::accepted_can_be_laid_out;
 use ax_isa::{Cpu, Image, Role, Status};
 use ax_rv::RvInstr;
 use ax_store::Store;
@@ -59,20 +60,27 @@ fn frames(alloc: Global, sizes: &[u64], entries: &[u32]) -> Result<Vec<u64>, All
     Ok(frames)
 }
 
-/// A storage with frames of these sizes, where the globals hold these numbers.
-fn store(alloc: Global, globals: &[u64], frames: &[u64]) -> Result<Store, AllocError>
-    requires globals { length globals.now ≤ 256 }
+/// Where the region of the globals ends.
+fn region_end(program: &Accepted) -> u64
+    ensures { result ≡ region_end program.now }
+{
+    program.is_without_faults();
+    accepted_can_be_laid_out();
+    program.layout().end().div_ceil(16) * 16
+}
+
+/// A storage with frames of these sizes, where the globals hold their first numbers.
+fn store(alloc: Global, program: &Accepted, frames: &[u64]) -> Result<Store, AllocError>
     requires sizes { All IsFrameSize frames.now }
     requires count { IsProcessorCount (length frames.now) }
-    ensures storage { IfOk result (λ s. storage_of s ≡ storage_with (65536 + (8 * length globals.now + 15) / 16 * 16) frames.now globals.now (length globals.now)) }
+    ensures storage { IfOk result (λ s. storage_of s ≡ storage_with (region_end program.now) frames.now (first_byte program.now)) }
     ensures unbuffered { IfOk result (λ s. s.buffered ≡ false) }
     ensures processors { IfOk result (λ s. processors s ≡ length frames.now) }
 {
-    let end = 0x1_0000 + (8 * globals.len() as u64 + 15) / 16 * 16;
-    let mut store = Store::new(alloc, end, frames, false)?;
-    for (g, number) in globals.iter().enumerate() {
-        store.store(0, 0x1_0000 + 8 * g as u64, 8, *number as u128);
-    }
+    program.is_without_faults();
+    accepted_can_be_laid_out();
+    let mut store = Store::new(alloc, region_end(program), frames, false)?;
+    store_globals(&mut store, program);
     Ok(store)
 }
 
@@ -80,17 +88,15 @@ fn store(alloc: Global, globals: &[u64], frames: &[u64]) -> Result<Store, AllocE
 pub(crate) fn start<'a>(
     alloc: Global,
     image: &'a Image<RvInstr>,
-    program: &First,
+    program: &Accepted,
     entries: &[u32],
     events: u64,
 ) -> Result<Machine<'a>, AllocError>
     requires code { IsSoundCode rv_kind IsInstr image.now }
-    requires functions { HasFunctions (length program.now.functions) image.now }
-    requires program { IsFirst program.now }
-    requires limits { IsWithinLimits program.now }
-    requires entries { AreEntries program.now entries.now }
+    requires functions { HasFunctions (length program.now.source.functions) image.now }
+    requires entries { AreEntriesOf program.now.source entries.now }
     requires events { events ≤ 1000000 }
-    ensures tells { IfOk result (λ m. Tells (start_of image.entry.now program.now entries.now) m) }
+    ensures tells { IfOk result (λ m. Tells (machine_begins rv_kind image.entry.now program.now entries.now) m) }
     ensures image { IfOk result (λ m. m.image ≡ image.entry.now) }
     ensures events { IfOk result (λ m. m.events ≡ []) }
     ensures room { IfOk result (λ m. m.room ≡ events) }
@@ -98,7 +104,7 @@ pub(crate) fn start<'a>(
 {
     let frames = frames(alloc, image.frames.as_slice(), entries)?;
     let cpus = cpus(alloc, image.entries.as_slice(), entries)?;
-    let store = store(alloc, program.globals.as_slice(), frames.as_slice())?;
+    let store = store(alloc, program, frames.as_slice())?;
     let outputs = Vec::with_capacity(alloc, events as usize)?;
     let sources = Vec::with_capacity(alloc, events as usize)?;
     let made = Vec::with_capacity(alloc, events as usize)?;

@@ -1,11 +1,12 @@
 //! The code of one instruction.
 
-ghost use Rattle.std.specs.Prelude.{◌≡◌, OnOk, if◌then◌else◌};
+ghost use Rattle.std.specs.Prelude.{◌≡◌, OnOk, if◌then◌else◌, nat_eq};
 ghost use Rattle.ax_source_run.specs.SourceInstructions.{is_out};
 ghost use Rattle.ax_mid.specs.Built.{pushed};
 ghost use Rattle.ax_mid.specs.declared.instruction.MidInst.{MidInst};
-ghost use Rattle.ax_pieces.specs.Near.{IsNearOut};
-ghost use Rattle.ax_selected.specs.Selected.{lone, out_operand, piece, straight};
+ghost use Rattle.ax_pieces.specs.Near.{IsNearBranch, IsNearOut};
+ghost use Rattle.ax_selected.specs.Edges.{edge_lines};
+ghost use Rattle.ax_selected.specs.Selected.{branch_lines, lone, out_operand, piece, straight};
 ghost use Rattle.ax_select.specs.Ready.{IsReady};
 
 use ax_mid::MidInst;
@@ -36,6 +37,23 @@ fn push_call(code: &mut Code, site: Site, name: &Name, args: &[Arg]) -> Result<(
         push_out(code, site, args)
     } else {
         push_lone(code, site, MidInst::Nop)
+    }
+}
+
+/// Appends the code of a conditional `br`: a jump where both of its sides are one block.
+fn push_br(code: &mut Code, setting: &Setting, site: Site, v: Branch) -> Result<(), AllocError>
+    requires { IsNearBranch site setting.now.blocks.now setting.now.starts.items v }
+    ensures { OnOk result (code.new ≡ pushed (if nat_eq v.if_true v.if_false then straight site.function site.instruction (edge_lines site.function setting.now.blocks.now v.from v.if_true) else branch_lines site.function site.instruction v.test (edge_lines site.function setting.now.blocks.now v.from v.if_true) (edge_lines site.function setting.now.blocks.now v.from v.if_false)) code.old) }
+{
+    let (blocks, starts) = (setting.blocks, setting.starts.as_slice());
+    if v.if_true == v.if_false {
+        let edge = Edge {
+            from: v.from,
+            to: v.if_true,
+        };
+        push_edge(code, site, blocks, starts, edge)
+    } else {
+        push_branch(code, site, blocks, starts, v)
     }
 }
 
@@ -102,11 +120,10 @@ pub(crate) fn push_piece(
         ),
         Inst::Phi(..) => Ok(()),
         Inst::Jump(to) => push_edge(code, site, blocks, starts, Edge { from: b, to: *to }),
-        Inst::Branch(test, yes, no) => push_branch(
+        Inst::Branch(test, yes, no) => push_br(
             code,
+            setting,
             site,
-            blocks,
-            starts,
             Branch {
                 test: *test,
                 from: b,

@@ -42,7 +42,7 @@ use Rattle.ax_typed.proofs.Places.{all_at, block_at, here}
 use Rattle.ax_typed.proofs.Standing as standing
 use Rattle.ax_typed.proofs.Types.{ResultsFit}
 use Rattle.ax_words.specs.declared.source.SourceStatus.{SourceStatus}
-use Rattle.ax_selected.specs.Addresses.{Brought, Fixed, IndexAt, address_of, count_of, frame_offset, index_at, object_of, rounded_bytes}
+use Rattle.ax_selected.specs.Addresses.{Brought, Fixed, IndexAt, count_of, frame_offset, index_at, object_of, rounded_bytes}
 use Rattle.ax_selected.specs.Contract.{Alike, Follows, Known, Stands}
 use Rattle.ax_selected.specs.Direct.{is_direct, needs_no_routine}
 use Rattle.ax_selected.specs.Laid.{HasAt, IsLaid, piece_of}
@@ -51,7 +51,7 @@ use Rattle.ax_selected.specs.Registers.{key}
 use Rattle.ax_selected.specs.Selected.{chosen_by, globals_from, through}
 use Rattle.ax_selected.proofs.Aligned.{narrow_128}
 use Rattle.ax_selected.proofs.Computes.{has, held}
-use Rattle.ax_selected.proofs.Entering.{Enters, Traps, enters_brought, enters_fixed, number_of_address}
+use Rattle.ax_selected.proofs.Entering.{Enters, IsInRow, Traps, enters_brought, enters_fixed, number_of_address, traps_fixed}
 use Rattle.ax_selected.proofs.Lying.{IsLaidAsIs, few_bytes, in_row}
 use Rattle.ax_selected.proofs.Pointing as pointing
 use Rattle.ax_selected.proofs.Pointing.{IsMade, PointsAt, StepIs, points_at}
@@ -216,24 +216,22 @@ module _ (program : SourceProgram) (accepted : IsAccepted program) (law : AtInst
       few : (r : ℕ) → frame_offset m f r + rounded_bytes (elements_of m f (Private r)) ≤ 32768
       few = few_bytes m f is.function is.at (grounds.heads f is.function is.at).bytes
 
-      abbrev chosen : ℕ → Straight
-      chosen n = record { silent = address_of program f object n ∷ rest.silent; last = rest.last }
+      row : IsInRow program code begins laid most base enough f k c object
+      row = in_row program grounds.as_is code begins laid most base enough f k c few grounds.high object
 
       fixed : (b : Bool) (n : ℕ) → nat_lt n (count_of program f object) ≡ b → HasAt code.lines c.place (through f k program object (Fixed n) rest) → Goes b (Fixed n) n
       fixed true n e has_it =
-          let at : HasAt code.lines c.place (chosen_by f k true (chosen n)) = subst (λ (q : Bool). HasAt code.lines c.place (chosen_by f k q (chosen n))) e has_it in
-          subst (λ (q : Bool). Enter (address n) (length (chosen_by f k q (chosen n)))) (sym e) (enters_fixed program code begins laid most base enough f k c object n rest true at)
+          let at : HasAt code.lines c.place (chosen_by f k true program object n rest) = subst (λ (q : Bool). HasAt code.lines c.place (chosen_by f k q program object n rest)) e has_it in
+          subst (λ (q : Bool). Enter (address n) (length (chosen_by f k q program object n rest))) (sym e) (enters_fixed program code begins laid most base enough f k c object n rest at)
       fixed false n e has_it =
-          let at : HasAt code.lines c.place (chosen_by f k false (chosen n)) = subst (λ (q : Bool). HasAt code.lines c.place (chosen_by f k q (chosen n))) e has_it in
-          enters_fixed program code begins laid most base enough f k c object n rest false at
+          let at : HasAt code.lines c.place (chosen_by f k false program object n rest) = subst (λ (q : Bool). HasAt code.lines c.place (chosen_by f k q program object n rest)) e has_it in
+          traps_fixed program code begins laid most base enough f k c object row n rest e at
 
       goes_at : (b : Bool) (at : IndexAt) (index : ℕ) → pointing.Index program accepted law code begins laid most base enough s c numbers alike here_is i known at index → nat_lt index (count_of program f object) ≡ b → HasAt code.lines c.place (through f k program object at rest) → Goes b at index
       goes_at b (Fixed n) index same e has_it =
           subst (λ (q : ℕ). Goes b (Fixed n) q) (sym same) (fixed b n (ap (λ (q : ℕ). nat_lt q (count_of program f object)) (sym same) ∙ e) has_it)
-      goes_at true (Brought lines) index brings e has_it =
-          enters_brought program code begins laid most base enough f k c object (in_row program grounds.as_is code begins laid most base enough f k c few grounds.high object) lines index brings rest has_it true e
-      goes_at false (Brought lines) index brings e has_it =
-          enters_brought program code begins laid most base enough f k c object (in_row program grounds.as_is code begins laid most base enough f k c few grounds.high object) lines index brings rest has_it false e
+      goes_at true (Brought lines) index brings e has_it = enters_brought program code begins laid most base enough f k c object row lines index brings rest has_it true e
+      goes_at false (Brought lines) index brings e has_it = enters_brought program code begins laid most base enough f k c object row lines index brings rest has_it false e
 
       goes : (b : Bool) → is_inside program s a ≡ b → Goes b (index_at program f a.base a.step) p.index
       goes b e =

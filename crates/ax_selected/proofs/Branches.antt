@@ -1,6 +1,7 @@
 -- Jumps and branches.
 use Rattle.std.proofs.Common.{◌≡◌, ℕ, zero, suc, ◌+◌, ◌-◌, ◌%◌, ◌^◌, ◌≤◌, Bool, true, false, List, [], ◌∷◌, ◌++◌, map, Option, Some, None, length, refl, sym, ap, ◌∙◌, subst, arith, slice_get}
 use Rattle.std.specs.Prelude.{if◌then◌else◌, nat_eq}
+use Rattle.std.proofs.lemmas.Bool.{eqb-true}
 use Rattle.ax_check.specs.Accepted.{IsAccepted}
 use Rattle.ax_check.specs.Laws.{AtInstructions, IsSound}
 use Rattle.ax_module.specs.declared.inst.Inst.{Inst}
@@ -33,7 +34,7 @@ use Rattle.ax_selected.specs.Laid.{HasAt, IsLaid}
 use Rattle.ax_selected.specs.Matches.{HoldsAllocas, HoldsValues}
 use Rattle.ax_selected.specs.Operands.{low_into}
 use Rattle.ax_selected.specs.Registers.{block_label, first_label, key, second_label, virtual}
-use Rattle.ax_selected.specs.Selected.{acting, piece, silent, straight}
+use Rattle.ax_selected.specs.Selected.{acting, branch_lines, piece, silent, straight}
 use Rattle.ax_selected.proofs.Computes.{IsCalm, calm_follows, has, held, low_fetched}
 use Rattle.ax_selected.proofs.Moves.{ArePhis, Rest, comes_in, sets}
 use Rattle.ax_selected.proofs.Registers.{half_below, no_temps, temp, values_temps}
@@ -112,8 +113,22 @@ module _ (program : SourceProgram) (accepted : IsAccepted program) (law : AtInst
       let at = has program accepted law code begins laid most base s c numbers (inst.Jump d) known alike here in
       edge_follows (inst.Jump d) known d is c most (edge d c most is (omega (arith, enough)) here.matches.values at) refl (record { frame = refl; status = refl; seen = refl; pending = refl }) refl (record { seen = refl; expected = refl })
 
+  -- ---- a branch to one block from both sides goes there whatever the test
+  one_way : (b : Bool) (d e : ℕ) → d ≡ e → (if b then e else d) ≡ d
+  one_way true d e same = sym same
+  one_way false d e same = refl
+
+  pub joined_follows : (v : Operand) (d e : ℕ) → (known : Known program s numbers (inst.Branch v d e)) → nat_eq d e ≡ true → IsEdge d → Follows key program code begins most base s c numbers (inst.Branch v d e)
+  unfolding piece deed_of is_unreachable pointers_of seen_by expected_by
+  joined_follows v d e known same is =
+      let i = inst.Branch v d e in
+      let own : Bool → List (Line Virtual) = λ q. if q then straight f k (edge_lines f blocks s.block d) else branch_lines f k v (edge_lines f blocks s.block d) (edge_lines f blocks s.block e) in
+      let at : HasAt code.lines c.place (straight f k (edge_lines f blocks s.block d)) = subst (λ (q : Bool). HasAt code.lines c.place (own q)) same (has program accepted law code begins laid most base s c numbers i known alike here) in
+      edge_follows i known d is c most (edge d c most is (omega (arith, enough)) here.matches.values at) refl (record { frame = refl; status = refl; seen = refl; pending = refl })
+      (ap (λ (to : ℕ). changed program s (entered blocks to s) numbers) (one_way (nat_eq (operand_of I1 v s.values) 0) d e (eqb-true d e same))) (record { seen = refl; expected = refl })
+
   -- ---- a branch: each edge has a label of its own
-  module _ (v : Operand) (d e : ℕ) (known : Known program s numbers (inst.Branch v d e)) (is_d : IsEdge d) (is_e : IsEdge e) where
+  module _ (v : Operand) (d e : ℕ) (known : Known program s numbers (inst.Branch v d e)) (apart : nat_eq d e ≡ false) (is_d : IsEdge d) (is_e : IsEdge e) where
     abbrev i : Inst
     i = inst.Branch v d e
 
@@ -131,7 +146,7 @@ module _ (program : SourceProgram) (accepted : IsAccepted program) (law : AtInst
 
     at : HasAt code.lines c.place (map (silent f k) front ++ lines_d ++ behind)
     unfolding piece
-    at = has program accepted law code begins laid most base s c numbers i known alike here
+    at = subst (λ (q : Bool). HasAt code.lines c.place (if q then lines_d else map (silent f k) front ++ lines_d ++ behind)) apart (has program accepted law code begins laid most base s c numbers i known alike here)
 
     abbrev x : MidProcessor
     x = mid.gets 0 (test % 2 ^ 64) c

@@ -35,7 +35,7 @@ use Rattle.ax_selected.specs.Edges.{coming_in, edge_lines, operand_from, set_phi
 use Rattle.ax_selected.specs.Operands.{high_into, is_narrow, low_into}
 use Rattle.ax_selected.specs.Pieces.{Comparison, Straight, apply, bin_lines, comparison, convert_lines, extract_lines, icmp_lines, narrow_bin, narrow_icmp, select_lines, wide_bin, wide_icmp}
 use Rattle.ax_selected.specs.Registers.{first_label, high_in, high_of, low_in, low_of, second_label, virtual}
-use Rattle.ax_selected.specs.Selected.{acting, atomic_load_lines, atomic_store_lines, branch_lines, bytes_at, chosen_by, compared, exchange_lines, fence_lines, found, gep_lines, halves_into, load_lines, lone, out_operand, piece, reach, silent, store_lines, straight, through, update_lines}
+use Rattle.ax_selected.specs.Selected.{acting, atomic_load_lines, atomic_store_lines, branch_lines, bytes_at, chosen_by, compared, exchange_lines, fence_lines, found, gep_lines, guarded, halves_into, load_lines, lone, out_operand, piece, reach, silent, store_lines, straight, through, update_lines}
 
 module _ (Q : MidInst Virtual → Type 0) where
   abbrev pub Each : List (MidInst Virtual) → Type 0
@@ -229,19 +229,22 @@ module _ (Q : MidInst Virtual → Type 0) where
     address_each program f (Shared g) j = p.const _ _
     address_each program f (Private r) j = p.frame _ _
 
-    through_each : (f k : ℕ) (program : SourceProgram) (o : Object) (index : IndexAt) (rest : Straight) → IndexEach index → IsEach rest → EachLine f k (through f k program o index rest)
-    unfolding IndexEach
-    through_each f k program o (Fixed j) rest is h = by (nat_lt j (count_of program f o))
-      where
-        by : (q : Bool) → EachLine f k (chosen_by f k q (record { silent = address_of program f o j ∷ rest.silent; last = rest.last }))
-        by true = straight_each f k (record { silent = address_of program f o j ∷ rest.silent; last = rest.last }) (record { silent_lines = (address_each program f o j, h.silent_lines); last_line = h.last_line })
-        by false = ((refl, p.trap), tt)
-    through_each f k program o (Brought lines) rest is h =
+    guarded_each : (f k : ℕ) (program : SourceProgram) (o : Object) (lines : List (MidInst Virtual)) (rest : Straight) → Each lines → IsEach rest → EachLine f k (guarded f k program o lines rest)
+    guarded_each f k program o lines rest is h =
         let end : Straight = record { silent = found f k (address_of program f o 0) (bytes_of program f o) ++ rest.silent; last = rest.last } in
         let behind = straight_each f k end (record { silent_lines = (p.const _ _, (does _ 1 1 2, (address_each program f o 0, (does _ 0 0 1, h.silent_lines)))); last_line = h.last_line }) in
         lines_both f k (map (silent f k) (lines ++ compared f k (count_of program f o))) (silent f k (mid.Branch (virtual 2) (second_label f k) (first_label f k)) ∷ silent f k (mid.Label (first_label f k)) ∷ acting f k mid.Trap ∷ silent f k (mid.Label (second_label f k)) ∷ straight f k end)
         (silent_each f k (lines ++ compared f k (count_of program f o)) (each_both lines (compared f k (count_of program f o)) is (p.const _ _, (does _ 2 1 2, tt))))
         ((refl, p.branch _ _ _), ((refl, p.label _), ((refl, p.trap), ((refl, p.label _), behind))))
+
+    through_each : (f k : ℕ) (program : SourceProgram) (o : Object) (index : IndexAt) (rest : Straight) → IndexEach index → IsEach rest → EachLine f k (through f k program o index rest)
+    unfolding IndexEach
+    through_each f k program o (Fixed j) rest is h = by (nat_lt j (count_of program f o))
+      where
+        by : (q : Bool) → EachLine f k (chosen_by f k q program o j rest)
+        by true = straight_each f k (record { silent = address_of program f o j ∷ rest.silent; last = rest.last }) (record { silent_lines = (address_each program f o j, h.silent_lines); last_line = h.last_line })
+        by false = guarded_each f k program o (mid.Const (virtual 1) j ∷ []) rest (p.const _ _, tt) h
+    through_each f k program o (Brought lines) rest is h = guarded_each f k program o lines rest is h
 
     branch_each : (f k : ℕ) (v : Operand) (a b : Straight) → IsEach a → IsEach b → EachLine f k (branch_lines f k v a b)
     branch_each f k v a b ha hb =
@@ -298,7 +301,11 @@ module _ (Q : MidInst Virtual → Type 0) where
       piece_each (inst.Convert o t v u) h = straight_each f k (convert_lines o k t v u) (convert_each o k t u v)
       piece_each (inst.Phi t entries) h = tt
       piece_each (inst.Jump d) h = straight_each f k (edge_lines f blocks b d) (edge_each f blocks b d)
-      piece_each (inst.Branch v d e) h = branch_each f k v (edge_lines f blocks b d) (edge_lines f blocks b e) (edge_each f blocks b d) (edge_each f blocks b e)
+      piece_each (inst.Branch v d e) h = by (nat_eq d e)
+        where
+          by : (q : Bool) → EachLine f k (if q then straight f k (edge_lines f blocks b d) else branch_lines f k v (edge_lines f blocks b d) (edge_lines f blocks b e))
+          by true = straight_each f k (edge_lines f blocks b d) (edge_each f blocks b d)
+          by false = branch_each f k v (edge_lines f blocks b d) (edge_lines f blocks b e) (edge_each f blocks b d) (edge_each f blocks b e)
       piece_each inst.RetVoid h = straight_each f k (lone mid.Ret) (lone_each mid.Ret p.ret)
       piece_each (inst.Ret t v) h = straight_each f k (lone mid.Trap) (lone_each mid.Trap p.trap)
       piece_each inst.Unreachable h = straight_each f k (lone mid.Trap) (lone_each mid.Trap p.trap)

@@ -21,7 +21,7 @@ use Rattle.ax_selected.specs.Addresses.{Brought, Fixed, IndexAt, address_of, byt
 use Rattle.ax_selected.specs.Laid.{HasAt, IsLaid}
 use Rattle.ax_selected.specs.Pieces.{Straight}
 use Rattle.ax_selected.specs.Registers.{first_label, key, second_label, virtual}
-use Rattle.ax_selected.specs.Selected.{acting, chosen_by, compared, found, lone, silent, straight, through}
+use Rattle.ax_selected.specs.Selected.{acting, chosen_by, compared, found, guarded, silent, straight}
 use Rattle.ax_selected.proofs.Registers.{Temps, no_temps, temp}
 use Rattle.ax_selected.proofs.Straight.{Passed, Runs, has_after, has_back, has_before, has_front, one, pass, runs_both, silent_length, stops}
 
@@ -97,7 +97,7 @@ module _ (program : SourceProgram) (code : Mid Virtual) (begins : ℕ → ℕ �
     runs : Runs program.target code base is c x
     moved : Moved c x
 
-  -- ---- an index that the text fixes
+  -- ---- an index that the text fixes and that is an element's
   fixed_in : (object : Object) (j : ℕ) (rest : Straight) → HasAt code.lines c.place (straight f k (record { silent = address_of program f object j ∷ rest.silent; last = rest.last })) → Enters rest (number_of_address object j) (length (straight f k (record { silent = address_of program f object j ∷ rest.silent; last = rest.last })))
   fixed_in object j rest has =
       let x = mid.gets 0 (number_of_address object j) c in
@@ -113,13 +113,8 @@ module _ (program : SourceProgram) (code : Mid Virtual) (begins : ℕ → ℕ �
         place = omega arith;
       }
 
-  trap_here : HasAt code.lines c.place (straight f k (lone line.Trap)) → Traps
-  trap_here has = record { at = c; moved = not_moved c; way = stops program.target code base f k line.Trap c most has.0; line = has.0 }
-
-  pub enters_fixed : (object : Object) (j : ℕ) (rest : Straight) (b : Bool) → HasAt code.lines c.place (chosen_by f k b (record { silent = address_of program f object j ∷ rest.silent; last = rest.last }))
-      → Way b rest (number_of_address object j) (length (chosen_by f k b (record { silent = address_of program f object j ∷ rest.silent; last = rest.last })))
-  enters_fixed object j rest true has = fixed_in object j rest has
-  enters_fixed object j rest false has = trap_here has
+  pub enters_fixed : (object : Object) (j : ℕ) (rest : Straight) → HasAt code.lines c.place (chosen_by f k true program object j rest) → Enters rest (number_of_address object j) (length (chosen_by f k true program object j rest))
+  enters_fixed object j rest has = fixed_in object j rest has
 
   -- ---- an index in register 1
   -- a silent line, where there are steps left
@@ -129,7 +124,7 @@ module _ (program : SourceProgram) (code : Mid Virtual) (begins : ℕ → ℕ �
       let e : suc n - 1 ≡ n = omega arith in
       one program.target code base f k i x y n at step ∙ ap (λ (m : ℕ). advance key program.target code base m y) (sym e)
 
-  module _ (object : Object) (row : IsInRow object) (lines : List (MidInst Virtual)) (index : ℕ) (brings : Brings lines index) (rest : Straight) (has : HasAt code.lines c.place (through f k program object (Brought lines) rest)) where
+  module _ (object : Object) (row : IsInRow object) (lines : List (MidInst Virtual)) (index : ℕ) (brings : Brings lines index) (rest : Straight) (has : HasAt code.lines c.place (guarded f k program object lines rest)) where
     abbrev count : ℕ
     count = count_of program f object
 
@@ -199,14 +194,14 @@ module _ (program : SourceProgram) (code : Mid Virtual) (begins : ℕ → ℕ �
           line = has_tail.1.1.0;
         }
 
-    through_length : length (through f k program object (Brought lines) rest) ≡ length front + 4 + (4 + length (straight f k rest))
+    through_length : length (guarded f k program object lines rest) ≡ length front + 4 + (4 + length (straight f k rest))
     through_length = by front ∙ ap (λ (n : ℕ). length front + 4 + n) refl
       where
         by : (is : List (MidInst Virtual)) → length (map (silent f k) is ++ tail) ≡ length is + 4 + (4 + length (straight f k rest))
         by [] = omega arith
         by (i ∷ is) = ap suc (by is) ∙ omega arith
 
-    inside : nat_lt (y.regs 1) count ≡ true → Enters rest (number_of_address object index) (length (through f k program object (Brought lines) rest))
+    inside : nat_lt (y.regs 1) count ≡ true → Enters rest (number_of_address object index) (length (guarded f k program object lines rest))
     unfolding private_step
     inside e =
         let within = less (sym (ap (λ (j : ℕ). nat_lt j count) brings.is_index) ∙ e) in
@@ -241,6 +236,16 @@ module _ (program : SourceProgram) (code : Mid Virtual) (begins : ℕ → ℕ �
         sums : (a b n : ℕ) → n ≡ a + b → n < 2 ^ 64 → (a + b % 2 ^ 64) % 2 ^ 64 ≡ n
         sums a b n is lt = omega (arith, is, lt)
 
-    pub enters_brought : (b : Bool) → nat_lt index count ≡ b → Way b rest (number_of_address object index) (length (through f k program object (Brought lines) rest))
+    pub enters_brought : (b : Bool) → nat_lt index count ≡ b → Way b rest (number_of_address object index) (length (guarded f k program object lines rest))
     enters_brought true e = inside (ap (λ (j : ℕ). nat_lt j count) brings.is_index ∙ e)
     enters_brought false e = outside (ap (λ (j : ℕ). nat_lt j count) brings.is_index ∙ e)
+
+  -- ---- an index that the text fixes and that is no element's is brought into register 1
+  constant : (j : ℕ) → Brings (line.Const (virtual 1) j ∷ []) j
+  unfolding private_step
+  constant j =
+      let x = mid.gets 1 j c in
+      record { to = x; runs = (x, refl, refl, refl); few = omega arith; moved = moved_temp c c 1 j (omega arith) (not_moved c); is_index = refl }
+
+  pub traps_fixed : (object : Object) → IsInRow object → (j : ℕ) (rest : Straight) → nat_lt j (count_of program f object) ≡ false → HasAt code.lines c.place (chosen_by f k false program object j rest) → Traps
+  traps_fixed object row j rest outside has = enters_brought object row (line.Const (virtual 1) j ∷ []) j (constant j) rest has false outside

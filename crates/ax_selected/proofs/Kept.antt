@@ -1,6 +1,6 @@
 -- The code of each access, and of each instruction, keeps its contract.
 use Rattle.std.proofs.Common.{◌≡◌, ℕ, ◌≤◌, Bool, true, false, not, ◌&&◌, List, [], ◌∷◌, ◌++◌, map, Option, Some, None, length, refl, sym, ap, ◌∙◌, subst, arith, slice_get}
-use Rattle.std.specs.Prelude.{if◌then◌else◌, nat_le, nat_lt}
+use Rattle.std.specs.Prelude.{if◌then◌else◌, nat_eq, nat_le, nat_lt}
 use Rattle.std.specs.Cmp.Lexicographic.{pointwise}
 use Rattle.std.proofs.lemmas.Bool.{and_from, and_parts, or_parts, true≢false, false≢true}
 use Rattle.std.proofs.lemmas.Option.{same_Some}
@@ -63,7 +63,7 @@ use Rattle.ax_selected.specs.Selected.{next_half, piece, through}
 use Rattle.ax_selected.proofs.Accesses.{load_atomic_narrow, store_atomic_narrow}
 use Rattle.ax_selected.proofs.Accessing.{Grounds, bit_at, deed_is, is, no_wide_step, odd_at, other_at, plain_is, reach_follows, scope, sound, stands_at, step_is}
 use Rattle.ax_selected.proofs.Aligned.{direct_native, large_width, wide_is, width_bytes}
-use Rattle.ax_selected.proofs.Branches.{branch_follows, jump_follows}
+use Rattle.ax_selected.proofs.Branches.{IsEdge, branch_follows, joined_follows, jump_follows}
 use Rattle.ax_selected.proofs.Choices.{extract_follows}
 use Rattle.ax_selected.proofs.Edging.{edge_to, formed}
 use Rattle.ax_selected.proofs.Elements.{update_narrow}
@@ -403,13 +403,19 @@ module _ (program : SourceProgram) (accepted : IsAccepted program) (law : AtInst
 
   branch : (v : Operand) (d e : ℕ) → Knows (inst.Branch v d e) → Follow (inst.Branch v d e)
   unfolding is_inst
-  branch v d e known =
-      let i = inst.Branch v d e in
-      let n = length known.walk.function.blocks in
-      let there = and_parts _ (nat_lt e n) (formed program accepted law fit code begins laid most base enough s c numbers alike here_is grounds i known) in
-      let first = and_parts _ (nat_lt d n) there.0 in
-      branch_follows program accepted law code begins laid most base enough s c numbers alike here_is v d e known
-      (edge_to program accepted law fit code begins laid most base enough s c numbers alike here_is grounds i known d (lt_of d n first.1)) (edge_to program accepted law fit code begins laid most base enough s c numbers alike here_is grounds i known e (lt_of e n there.1))
+  branch v d e known = by (nat_eq d e) refl
+    where
+      edges : IsEdge program accepted law code begins laid most base enough s c numbers alike here_is d × IsEdge program accepted law code begins laid most base enough s c numbers alike here_is e
+      edges =
+          let i = inst.Branch v d e in
+          let n = length known.walk.function.blocks in
+          let there = and_parts _ (nat_lt e n) (formed program accepted law fit code begins laid most base enough s c numbers alike here_is grounds i known) in
+          let first = and_parts _ (nat_lt d n) there.0 in
+          (edge_to program accepted law fit code begins laid most base enough s c numbers alike here_is grounds i known d (lt_of d n first.1), edge_to program accepted law fit code begins laid most base enough s c numbers alike here_is grounds i known e (lt_of e n there.1))
+
+      by : (b : Bool) → nat_eq d e ≡ b → Follow (inst.Branch v d e)
+      by true same = joined_follows program accepted law code begins laid most base enough s c numbers alike here_is v d e known same edges.0
+      by false apart = branch_follows program accepted law code begins laid most base enough s c numbers alike here_is v d e known apart edges.0 edges.1
 
   -- ---- each instruction
   pub all_follow : (i : Inst) → Knows i → Follow i

@@ -21,7 +21,7 @@ use Rattle.ax_selected.specs.Laid.{AreFew, ArePlenty, total}
 use Rattle.ax_selected.specs.Operands.{high_into, low_into}
 use Rattle.ax_selected.specs.Pieces.{Straight}
 use Rattle.ax_selected.specs.Registers.{first_label, key, second_label, virtual}
-use Rattle.ax_selected.specs.Selected.{acting, chosen_by, compared, found, lone, silent, straight, through}
+use Rattle.ax_selected.specs.Selected.{acting, chosen_by, compared, found, guarded, silent, straight, through}
 
 abbrev pub RisingAt : Option ℕ → ℕ → (ℕ → Type 0) → Type 0
 RisingAt None from Then = Then from
@@ -148,18 +148,21 @@ IndexNone (Fixed j) = Unit {0}
 IndexNone (Brought lines) = HasNone lines
 
 -- from the first label of an instruction to behind its second
-pub through_rises : (f k : ℕ) (program : SourceProgram) (o : Object) (index : IndexAt) (rest : Straight) (from to : ℕ) → from ≤ first_label f k → second_label f k + 1 ≤ to → IndexNone index → IsUnlabelled rest → Rising (through f k program o index rest) from to
-unfolding IndexNone
-through_rises f k program o (Fixed j) rest from to low high is h = by (nat_lt j (count_of program f o))
-  where
-    by : (b : Bool) → Rising (chosen_by f k b (record { silent = address_of program f o j ∷ rest.silent; last = rest.last })) from to
-    by true = rising_straight f k (record { silent = address_of program f o j ∷ rest.silent; last = rest.last }) from to (record { silent_lines = (address_none program f o j, h.silent_lines); last_line = h.last_line }) (omega (arith, low, high))
-    by false = omega (arith, low, high)
-through_rises f k program o (Brought lines) rest from to low high is h =
+guarded_rises : (f k : ℕ) (program : SourceProgram) (o : Object) (lines : List (MidInst Virtual)) (rest : Straight) (from to : ℕ) → from ≤ first_label f k → second_label f k + 1 ≤ to → HasNone lines → IsUnlabelled rest → Rising (guarded f k program o lines rest) from to
+guarded_rises f k program o lines rest from to low high is h =
     let end : Straight = record { silent = found f k (address_of program f o 0) (bytes_of program f o) ++ rest.silent; last = rest.last } in
     let behind = rising_straight f k end (second_label f k + 1) to (record { silent_lines = (refl, (refl, (address_none program f o 0, (refl, h.silent_lines)))); last_line = h.last_line }) high in
     rising_silent f k (lines ++ compared f k (count_of program f o)) (silent f k (mid.Branch (virtual 2) (second_label f k) (first_label f k)) ∷ silent f k (mid.Label (first_label f k)) ∷ acting f k mid.Trap ∷ silent f k (mid.Label (second_label f k)) ∷ straight f k end) from to
     (none_both lines (compared f k (count_of program f o)) is (refl, (refl, tt))) (low, (omega arith, behind))
+
+pub through_rises : (f k : ℕ) (program : SourceProgram) (o : Object) (index : IndexAt) (rest : Straight) (from to : ℕ) → from ≤ first_label f k → second_label f k + 1 ≤ to → IndexNone index → IsUnlabelled rest → Rising (through f k program o index rest) from to
+unfolding IndexNone
+through_rises f k program o (Fixed j) rest from to low high is h = by (nat_lt j (count_of program f o))
+  where
+    by : (b : Bool) → Rising (chosen_by f k b program o j rest) from to
+    by true = rising_straight f k (record { silent = address_of program f o j ∷ rest.silent; last = rest.last }) from to (record { silent_lines = (address_none program f o j, h.silent_lines); last_line = h.last_line }) (omega (arith, low, high))
+    by false = guarded_rises f k program o (mid.Const (virtual 1) j ∷ []) rest from to low high (refl, tt) h
+through_rises f k program o (Brought lines) rest from to low high is h = guarded_rises f k program o lines rest from to low high is h
 
 pub branch_rises : (f k : ℕ) (v : Operand) (a b : Straight) (from to : ℕ) → from ≤ first_label f k → second_label f k + 1 ≤ to → IsUnlabelled a → IsUnlabelled b → Rising (Rattle.ax_selected.specs.Selected.branch_lines f k v a b) from to
 branch_rises f k v a b from to low high ha hb =

@@ -30,7 +30,7 @@ use Rattle.ax_selected.specs.Edges.{edge_lines}
 use Rattle.ax_selected.specs.Laid.{CodeIsLaid}
 use Rattle.ax_selected.specs.Operands.{is_narrow, low_into}
 use Rattle.ax_selected.specs.Pieces.{Comparison, Straight, apply, bin_lines, convert_lines, extract_lines, icmp_lines, narrow_bin, narrow_icmp, select_lines, wide_bin, wide_icmp}
-use Rattle.ax_selected.specs.Selected.{fence_lines, gep_lines, halves_into, load_lines, lone, out_operand, piece, reach, store_lines, straight, through}
+use Rattle.ax_selected.specs.Selected.{branch_lines, fence_lines, gep_lines, halves_into, load_lines, lone, out_operand, piece, reach, store_lines, straight, through}
 use Rattle.ax_selected.proofs.Placing.{is_laid}
 use Rattle.ax_selected.proofs.Labels.{EachRises, labels_once, HasNone, IndexNone, IsUnlabelled, Rising, branch_rises, edge_none, high_none, low_none, none_both, rising_straight, through_rises}
 
@@ -174,7 +174,11 @@ module _ (program : SourceProgram) (f k b : ℕ) (blocks : List Block) where
   piece_rises (inst.Convert o t v u) = rises (convert_lines o k t v u) (convert_none o k t u v)
   piece_rises (inst.Phi t entries) = omega arith
   piece_rises (inst.Jump d) = rises (edge_lines f blocks b d) (edge_none f blocks b d)
-  piece_rises (inst.Branch v d e) = branch_rises f k v (edge_lines f blocks b d) (edge_lines f blocks b e) (8192 * f + 4 * k + 1) (8192 * f + 4 * k + 4) (omega arith) (omega arith) (edge_none f blocks b d) (edge_none f blocks b e)
+  piece_rises (inst.Branch v d e) = by (nat_eq d e)
+    where
+      by : (q : Bool) → Rising (if q then straight f k (edge_lines f blocks b d) else branch_lines f k v (edge_lines f blocks b d) (edge_lines f blocks b e)) (8192 * f + 4 * k + 1) (8192 * f + 4 * k + 4)
+      by true = rises (edge_lines f blocks b d) (edge_none f blocks b d)
+      by false = branch_rises f k v (edge_lines f blocks b d) (edge_lines f blocks b e) (8192 * f + 4 * k + 1) (8192 * f + 4 * k + 4) (omega arith) (omega arith) (edge_none f blocks b d) (edge_none f blocks b e)
   piece_rises inst.RetVoid = rises (lone mid.Ret) (lone_none mid.Ret refl)
   piece_rises (inst.Ret t v) = rises (lone mid.Trap) (lone_none mid.Trap refl)
   piece_rises inst.Unreachable = rises (lone mid.Trap) (lone_none mid.Trap refl)

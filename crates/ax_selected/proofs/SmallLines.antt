@@ -62,7 +62,7 @@ use Rattle.ax_selected.specs.Operands.{constant_of, is_narrow}
 use Rattle.ax_selected.specs.Pieces.{Straight, bin_lines, comparison, convert_lines, extract_lines, icmp_lines, select_lines}
 use Rattle.ax_selected.specs.Ranges.{IsNear}
 use Rattle.ax_selected.specs.Registers.{block_label, key, low_of, virtual}
-use Rattle.ax_selected.specs.Selected.{atomic_load_lines, atomic_store_lines, blocks_lines, bytes_at, exchange_lines, fence_lines, function_lines, functions_lines, gep_lines, insts_lines, load_lines, lone, out_operand, piece, reach, selected, store_lines, straight, update_lines}
+use Rattle.ax_selected.specs.Selected.{atomic_load_lines, atomic_store_lines, blocks_lines, branch_lines, bytes_at, exchange_lines, fence_lines, function_lines, functions_lines, gep_lines, insts_lines, load_lines, lone, out_operand, piece, reach, selected, store_lines, straight, update_lines}
 use Rattle.ax_selected.proofs.Aligned.{narrow_128}
 use Rattle.ax_selected.proofs.Frames.{ends}
 use Rattle.ax_selected.proofs.Lying.{few_bytes, lt_of}
@@ -443,9 +443,13 @@ module _ (laws : Laws) (program : SourceProgram) (accepted : IsAccepted program)
         straight_small n k (convert_lines cast k t v u) (convert_small k lt cast t u v (typed t v (and_parts (is_typed scope t v) (is_type u) h.formed).0) r.0 (rest u [] r.1).0 (is_true (converts cast t u) h.mixed) h.left_out)
     piece_small (inst.Phi t es) h = tt
     piece_small (inst.Jump d) h = straight_small n k (edge_lines n f.blocks b d) (edge_small n f.blocks b d (phis d))
-    piece_small (inst.Branch v d e) h =
-        let p = and_parts (is_operand scope v && is_block_number scope d) (is_block_number scope e) h.formed in
-        branch_small n k v (edge_lines n f.blocks b d) (edge_lines n f.blocks b e) (near v (and_parts (is_operand scope v) (is_block_number scope d) p.0).0) (edge_small n f.blocks b d (phis d)) (edge_small n f.blocks b e (phis e))
+    piece_small (inst.Branch v d e) h = by (nat_eq d e)
+      where
+        by : (q : Bool) → AreSmall (if q then straight n k (edge_lines n f.blocks b d) else branch_lines n k v (edge_lines n f.blocks b d) (edge_lines n f.blocks b e))
+        by true = straight_small n k (edge_lines n f.blocks b d) (edge_small n f.blocks b d (phis d))
+        by false =
+            let p = and_parts (is_operand scope v && is_block_number scope d) (is_block_number scope e) h.formed in
+            branch_small n k v (edge_lines n f.blocks b d) (edge_lines n f.blocks b e) (near v (and_parts (is_operand scope v) (is_block_number scope d) p.0).0) (edge_small n f.blocks b d (phis d)) (edge_small n f.blocks b e (phis e))
     piece_small inst.RetVoid h = straight_small n k (lone mid.Ret) (lone_small mid.Ret ret)
     piece_small (inst.Ret t v) h = stops
     piece_small inst.Unreachable h = stops

@@ -22,7 +22,9 @@ use Rattle.ax_tags.specs.declared.tags.Tag.TheVariants as tag
 use Rattle.ax_words.specs.declared.mark.Op.TheVariants as operation
 use Rattle.ax_words.specs.declared.operation.RmwOp.{RmwOp}
 use Rattle.ax_words.specs.declared.order.Order.{Order}
+use Rattle.ax_mid.specs.declared.instruction.MidInst.{MidInst}
 use Rattle.ax_mid.specs.declared.instruction.MidInst.TheVariants as mid
+use Rattle.ax_mid.specs.declared.registers.Virtual.{Virtual}
 use Rattle.ax_mid.specs.WellFormed.{is_access_size, words}
 use Rattle.ax_rules.specs.Width.{is_i128, is_left_out, is_odd}
 use Rattle.ax_access_rules.specs.Mixed.{converts}
@@ -32,7 +34,7 @@ use Rattle.ax_selected.specs.Operands.{constant_of, high_into, is_narrow, low_in
 use Rattle.ax_selected.specs.Pieces.{Straight, convert_lines, extract_lines, select_lines}
 use Rattle.ax_selected.specs.Ranges.{IsNear}
 use Rattle.ax_selected.specs.Registers.{block_label, first_label, flag_of, high_in, high_of, low_in, low_of, second_label, virtual}
-use Rattle.ax_selected.specs.Selected.{acting, atomic_load_lines, atomic_store_lines, branch_lines, chosen_by, compared, exchange_lines, found, gep_lines, halves, halves_into, load_lines, next_half, silent, store_lines, straight, through, update_lines}
+use Rattle.ax_selected.specs.Selected.{acting, atomic_load_lines, atomic_store_lines, branch_lines, chosen_by, compared, exchange_lines, found, gep_lines, guarded, halves, halves_into, load_lines, next_half, silent, store_lines, straight, through, update_lines}
 use Rattle.ax_selected.proofs.Aligned.{narrow_128, some_bits}
 use Rattle.ax_selected.proofs.Keeping.{fewer}
 use Rattle.ax_selected.proofs.Lying.{lt_of}
@@ -169,19 +171,22 @@ module _ (f k : ℕ) where
       (labels (second_label f k), straight_small f k b hb)
 
   module _ (program : SourceProgram) (o : Object) (small : IsSmallObject program f o) (rest : Straight) (h : IsSmallStraight rest) where
-    pub through_small : (index : IndexAt) → IsSmallIndex index → AreSmall (through f k program o index rest)
-    unfolding IsSmallIndex
-    through_small (Fixed j) is = by (nat_lt j (count_of program f o)) refl
-      where
-        by : (q : Bool) → nat_lt j (count_of program f o) ≡ q → AreSmall (chosen_by f k q (record { silent = address_of program f o j ∷ rest.silent; last = rest.last }))
-        by true e = straight_small f k (record { silent = address_of program f o j ∷ rest.silent; last = rest.last }) (record { quiet = (small.inside j (lt_of j (count_of program f o) e), h.quiet); last = h.last })
-        by false e = (trap, tt)
-    through_small (Brought lines) is =
+    guarded_small : (lines : List (MidInst Virtual)) → AreQuiet lines → AreSmall (guarded f k program o lines rest)
+    guarded_small lines is =
         let end : Straight = record { silent = found f k (address_of program f o 0) (bytes_of program f o) ++ rest.silent; last = rest.last } in
         let behind = straight_small f k end (record { quiet = (const tag.Silent refl 2 (bytes_of program f o) (omega arith) small.bytes, (does tag.Silent refl _ 1 1 2 (omega arith) (omega arith) (omega arith), (small.first, (does tag.Silent refl _ 0 0 1 (omega arith) (omega arith) (omega arith), h.quiet)))); last = h.last }) in
         small_both (map (silent f k) (lines ++ compared f k (count_of program f o))) (silent f k (mid.Branch (virtual 2) (second_label f k) (first_label f k)) ∷ silent f k (mid.Label (first_label f k)) ∷ acting f k mid.Trap ∷ silent f k (mid.Label (second_label f k)) ∷ straight f k end)
         (silent_small f k (lines ++ compared f k (count_of program f o)) (quiet_both lines (compared f k (count_of program f o)) is (const tag.Silent refl 2 (count_of program f o) (omega arith) small.count, (does tag.Silent refl _ 2 1 2 (omega arith) (omega arith) (omega arith), tt))))
         (branches 2 (second_label f k) (first_label f k) (omega arith), (labels (first_label f k), (trap, (labels (second_label f k), behind))))
+
+    pub through_small : (index : IndexAt) → IsSmallIndex index → AreSmall (through f k program o index rest)
+    unfolding IsSmallIndex
+    through_small (Fixed j) is = by (nat_lt j (count_of program f o)) refl
+      where
+        by : (q : Bool) → nat_lt j (count_of program f o) ≡ q → AreSmall (chosen_by f k q program o j rest)
+        by true e = straight_small f k (record { silent = address_of program f o j ∷ rest.silent; last = rest.last }) (record { quiet = (small.inside j (lt_of j (count_of program f o) e), h.quiet); last = h.last })
+        by false e = guarded_small (mid.Const (virtual 1) j ∷ []) (const tag.Silent refl 1 j (omega arith) is, tt)
+    through_small (Brought lines) is = guarded_small lines is
 
 -- ---- accesses
 next_small : AreQuiet next_half

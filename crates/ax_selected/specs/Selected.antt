@@ -1,5 +1,5 @@
 -- The middle code of a module, and where each instruction's code begins.
-use Rattle.std.specs.Prelude.{ℕ, ◌+◌, Bool, true, false, nat_lt, if◌then◌else◌, List, [], ◌∷◌, ◌++◌, map, take, length, slice_get}
+use Rattle.std.specs.Prelude.{ℕ, ◌+◌, Bool, true, false, nat_eq, nat_lt, if◌then◌else◌, List, [], ◌∷◌, ◌++◌, map, take, length, slice_get}
 use Rattle.ax_module.specs.declared.inst.Inst.{Inst}
 use Rattle.ax_module.specs.declared.inst.Inst.TheVariants as inst
 use Rattle.ax_module.specs.declared.module.Block.{Block}
@@ -96,17 +96,21 @@ module _ (f k : ℕ) where
   abbrev pub found : MidInst Virtual → ℕ → List (MidInst Virtual)
   found first bytes = mid.Const (virtual 2) bytes ∷ apply op.Mul 1 1 2 ∷ first ∷ apply op.Add 0 0 1 ∷ []
 
-  abbrev pub chosen_by : Bool → Straight → List (Line Virtual)
-  chosen_by true rest = straight rest
-  chosen_by false rest = straight (lone mid.Trap)
-
-  abbrev pub through : SourceProgram → Object → IndexAt → Straight → List (Line Virtual)
-  through program object (Fixed i) rest =
-      chosen_by (nat_lt i (count_of program f object)) (record { silent = address_of program f object i ∷ rest.silent; last = rest.last })
-  through program object (Brought lines) rest =
+  -- an index that is brought is compared with the count: where it is no element's, there is a trap
+  abbrev pub guarded : SourceProgram → Object → List (MidInst Virtual) → Straight → List (Line Virtual)
+  guarded program object lines rest =
       map silent (lines ++ compared (count_of program f object))
       ++ silent (mid.Branch (virtual 2) (second_label f k) (first_label f k)) ∷ silent (mid.Label (first_label f k)) ∷ acting mid.Trap ∷ silent (mid.Label (second_label f k)) ∷
       straight (record { silent = found (address_of program f object 0) (bytes_of program f object) ++ rest.silent; last = rest.last })
+
+  -- the access's own code stands behind the trap also where the text fixes an index that is no element's
+  abbrev pub chosen_by : Bool → SourceProgram → Object → ℕ → Straight → List (Line Virtual)
+  chosen_by true program object i rest = straight (record { silent = address_of program f object i ∷ rest.silent; last = rest.last })
+  chosen_by false program object i rest = guarded program object (mid.Const (virtual 1) i ∷ []) rest
+
+  abbrev pub through : SourceProgram → Object → IndexAt → Straight → List (Line Virtual)
+  through program object (Fixed i) rest = chosen_by (nat_lt i (count_of program f object)) program object i rest
+  through program object (Brought lines) rest = guarded program object lines rest
 
   abbrev pub gep_lines : IndexAt → Straight
   gep_lines (Fixed i) = lone (mid.Const (virtual (low_of k)) i)
@@ -140,7 +144,8 @@ module _ (f k : ℕ) where
     piece (inst.Convert cast ty x to) = straight (convert_lines cast k ty x to)
     piece (inst.Phi ty entries) = []
     piece (inst.Jump d) = straight (edge_lines f blocks b d)
-    piece (inst.Branch test d e) = branch_lines test (edge_lines f blocks b d) (edge_lines f blocks b e)
+    -- a branch to one block from both sides is a jump
+    piece (inst.Branch test d e) = if nat_eq d e then straight (edge_lines f blocks b d) else branch_lines test (edge_lines f blocks b d) (edge_lines f blocks b e)
     piece inst.RetVoid = straight (lone mid.Ret)
     piece (inst.Ret ty x) = straight (lone mid.Trap)
     piece inst.Unreachable = straight (lone mid.Trap)

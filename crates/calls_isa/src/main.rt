@@ -1,10 +1,12 @@
-//! Rows of calls of the machine's instructions: effects, and instructions of three sets by their
-//! spellings.
+//! Rows of calls of the machine's instructions: effects, instructions of three sets by their spellings,
+//! report lines, and an image as text.
 #![tactic(auto)]
 
 mod arm;
 mod effects;
 mod machine;
+mod printed;
+mod reports;
 mod rv;
 mod sets;
 mod spelled;
@@ -98,7 +100,8 @@ impl Calls for Instructions {
             ["event", event, p] => self.happened(alloc, event, p),
             ["spellings", set] => Ok(spellings(alloc, set_of(set)?)?),
             ["step", place, effect @ ..] => steps::stepped(alloc, place, effect),
-            _ => Err(Fault::Row),
+            ["printed"] => Ok(printed::printed(alloc, texts)?),
+            _ => reports::answer(alloc, words),
         }
     }
 }

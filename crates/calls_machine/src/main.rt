@@ -1,10 +1,9 @@
 //! Rows of calls of machines and of what leads to them: targets and the mapping table, layouts,
-//! checks, storage, numbers, the source machine, modules of the first kind, files and sinks.
+//! checks, storage, numbers, the source machine, files and sinks.
 #![tactic(auto)]
 
 mod checks;
 mod copies;
-mod first;
 mod mapping;
 mod numbers;
 mod source;
@@ -39,8 +38,6 @@ impl Calls for Machines {
             ["layout", name] => checks::layout_of(alloc, name, one(texts)?),
             ["check", name] => checks::checked(alloc, name, one(texts)?),
             ["source", name, entries @ ..] => source::played(alloc, name, entries, texts),
-            ["first"] => first::of_text(alloc, one(texts)?),
-            ["made", parts @ ..] => first::of_parts(alloc, parts),
             ["copies", parts @ ..] => copies::copied(alloc, parts),
             ["store.new", parts @ ..] => {
                 self.storage = Some(Storage::of(alloc, parts)?);

@@ -1,5 +1,5 @@
-; Each order of loads, stores and additions that the first kind has, so that the assembly has each
-; row of the mapping table for them.
+; Each order of loads, stores and additions of i64, so that the assembly has each row of the mapping
+; table for them.
 @a = global i64 7, align 8
 @b = global i64 0, align 8
 declare void @out(i64)

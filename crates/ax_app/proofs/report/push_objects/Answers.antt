@@ -1,30 +1,42 @@
-use Rattle.std.proofs.Common.{◌≡◌, ◌+◌, ◌++◌, sym, ap, ◌∙◌, arith, append_assoc, drop}
+use Rattle.std.proofs.Common.{◌≡◌, ◌+◌, ◌++◌, sym, ap, ◌∙◌, append_assoc, drop, map}
 use Rattle.std.specs.Prelude.{slice_index_or}
 use Rattle.std.specs.String.{string_bytes}
-use Rattle.ax_store.specs.Bytes.{number_at}
-use Rattle.ax_first.specs.Alike.{on_rv64}
-use Rattle.ax_lower.specs.Layout.{address_of}
-use Rattle.ax_print.specs.Report.{object_line}
-use Rattle.ax_app.specs.Report.{object_part}
-use Rattle.ax_app.proofs.Reports.{object_next}
+use Rattle.ax_module.specs.declared.module.Global.{Global}
+use Rattle.ax_layout.specs.Layout.{count_in}
+use Rattle.ax_app.specs.Report.{element_lines, object_part}
+use Rattle.ax_app.proofs.Reports.{name_ascii, object_next, that_of}
 use Rattle.ax_app.proofs.report.push_objects.Goals as goal
 
-pub loop-name-preserved : goal.loop-name-preserved
-loop-name-preserved c = (
-  ap (λ k. k + 1) c.loop-name.invariant.0,
-  λ source of m h.
-      let i = c.loop-name.name-index in
-      let names = c.args.globals.now in
-      let old = string_bytes c.loop-name.out in
+pub push_elements-requires-clause-global : goal.push_elements-requires-clause-global
+push_elements-requires-clause-global c =
+    (that_of c.args.run.now.program c.requires.limits c.requires.layout c.objects_are_apart.ensures.globals c.args.globals.now c.requires.globals c.loop-global.g c.loop-global.global-index c.global-item.result c.loop-global.invariant.0 c.loop-global-test.true c.global-item.is).within
+
+pub push_elements-requires-clause-count : goal.push_elements-requires-clause-count
+push_elements-requires-clause-count c =
+    sym (that_of c.args.run.now.program c.requires.limits c.requires.layout c.objects_are_apart.ensures.globals c.args.globals.now c.requires.globals c.loop-global.g c.loop-global.global-index c.global-item.result c.loop-global.invariant.0 c.loop-global-test.true c.global-item.is).count
+
+pub push_elements-requires-clause-bytes : goal.push_elements-requires-clause-bytes
+push_elements-requires-clause-bytes c = name_ascii c.args.globals.now c.requires.bytes c.loop-global.global-index c.global-item.result c.loop-global-test.true c.global-item.is
+
+pub loop-global-preserved : goal.loop-global-preserved
+loop-global-preserved c = (
+  ap (λ k. k + 1) c.loop-global.invariant.0,
+  λ m h.
+      let i = c.loop-global.global-index in
+      let globals = c.args.globals.now in
+      let old = string_bytes c.loop-global.out in
       let program = c.args.run.now.program in
       let mem = m.noted.storage.mem in
-      let less = c.loop-name-test.true in
-      let count = c.requires.count in
-      let rest = object_part (on_rv64 source) mem (i + 1) (drop (i + 1) names) in
-      let line = object_line (slice_index_or names i c.name-item.result) 0 (number_at mem (address_of i) 8) in
-      let wrote : string_bytes c.push_element.new.out ≡ old ++ line =
-      c.in_ok-push_element.ensures m h ∙ ap (λ n. old ++ object_line n 0 (number_at mem (address_of c.loop-name.g) 8)) c.name-item.is ∙ ap (λ g. old ++ object_line (slice_index_or names i c.name-item.result) 0 (number_at mem (address_of g) 8)) c.loop-name.invariant.0 in
-      ap (λ t. t ++ rest) wrote ∙ append_assoc old line rest
-      ∙ ap (λ t. old ++ t) (sym (object_next c.globals_are_words.ensures source program of mem i i names c.name-item.result (omega (arith, less, count)) less))
-      ∙ c.loop-name.invariant.1 source of m h,
+      let x = c.global-item.result in
+      let less = c.loop-global-test.true in
+      let that = that_of program c.requires.limits c.requires.layout c.objects_are_apart.ensures.globals globals c.requires.globals c.loop-global.g i x c.loop-global.invariant.0 less c.global-item.is in
+      let rest = object_part program mem (i + 1) (map (λ (y : Global). y.name) (drop (i + 1) globals)) in
+      let lines = element_lines program mem i (slice_index_or globals i x).name 0 (count_in program.layout i) in
+      let wrote : string_bytes c.push_elements.new.out ≡ old ++ lines =
+      c.in_ok-push_elements.ensures m h ∙ ap (λ n. old ++ element_lines program mem c.loop-global.g x.name 0 n) (sym that.count)
+      ∙ ap (λ g. old ++ element_lines program mem g x.name 0 (count_in program.layout g)) c.loop-global.invariant.0
+      ∙ ap (λ (y : Global). old ++ element_lines program mem i y.name 0 (count_in program.layout i)) c.global-item.is in
+      ap (λ t. t ++ rest) wrote ∙ append_assoc old lines rest
+      ∙ ap (λ t. old ++ t) (sym (object_next program mem i i globals x less))
+      ∙ c.loop-global.invariant.1 m h,
 )

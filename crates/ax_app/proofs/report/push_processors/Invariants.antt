@@ -1,6 +1,5 @@
 use Rattle.std.proofs.Common.{◌≡◌, ◌++◌, ◌-◌}
 use Rattle.std.specs.String.{string_bytes}
-use Rattle.ax_source_run.specs.SourceState.{SourceProgram}
 use Rattle.ax_isa.specs.Run.{Machine}
 use Rattle.ax_run.specs.Machine.{Shows}
 use Rattle.ax_app.specs.Report.{processor_part}
@@ -9,4 +8,4 @@ use Rattle.ax_app.proofs.report.push_processors.Given as goal
 -- what was appended and what is left is the whole
 abbrev pub invariant-loop-p : goal.invariant-loop-p
 invariant-loop-p l =
-    (of : SourceProgram) (m : Machine) → Shows l.run.machine m → string_bytes l.out ++ processor_part of m l.p (l.p-end - l.p) ≡ string_bytes l.initial.out ++ processor_part of m 0 l.p-end
+    (m : Machine) → Shows l.run.machine m → string_bytes l.out ++ processor_part l.run.program m l.p (l.p-end - l.p) ≡ string_bytes l.initial.out ++ processor_part l.run.program m 0 l.p-end

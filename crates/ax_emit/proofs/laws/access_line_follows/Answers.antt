@@ -7,8 +7,7 @@ use Rattle.ax_emit.proofs.laws.access_line_follows.Goals as goal
 pub returns : goal.returns
 returns g c =
     let k = g.I.Isa.kind in
-    let m = g.M.MiddleProgram.program in
     record {
-      load = λ to address n. access_line k m (mid.Load to address n) (load_of m to address n) (load_shared m to address n) refl;
-      store = λ address from n. access_line k m (mid.Store address from n) (store_of m address from n) (store_shared m address from n) refl;
+      load = λ case. let m = g.M.MiddleProgram.program case in λ to address n. access_line k m (mid.Load to address n) (load_of m to address n) (load_shared m to address n) refl;
+      store = λ case. let m = g.M.MiddleProgram.program case in λ address from n. access_line k m (mid.Store address from n) (store_of m address from n) (store_shared m address from n) refl;
     }

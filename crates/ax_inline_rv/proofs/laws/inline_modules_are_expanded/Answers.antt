@@ -2,10 +2,11 @@ use Rattle.ax_inline_rv.proofs.Expanding.{module_expanded}
 use Rattle.ax_inline_rv.proofs.laws.inline_modules_are_expanded.Goals as goal
 
 pub returns : goal.returns
-returns g c =
-    module_expanded g.C.InlineModule.program (record {
-      inline = c.inline_code_is_expanded.ensures;
-      plain = c.plain_accesses_are_expanded.ensures;
+returns c =
+    λ program.
+    module_expanded program (record {
+      inline = c.inline_code_is_expanded.ensures program;
+      plain = c.plain_accesses_are_expanded.ensures program;
       small = c.selected_lines_are_small.ensures;
       sites = c.selected_operations_are_at_sites.ensures;
     })

@@ -3,8 +3,9 @@ use Rattle.ax_meaning.proofs.laws.following_code_lowers.Goals as goal
 
 pub returns : goal.returns
 returns g c =
-    code_lowers g.C.FollowingCode.setting g.C.FollowingCode.reading g.C.FollowingCode.program g.C.FollowingCode.frames g.C.FollowingCode.places (record {
-      runs = c.code_in_step_runs_in_step.ensures;
+    λ case.
+    code_lowers (g.C.FollowingCode.setting case) (g.C.FollowingCode.reading case) (g.C.FollowingCode.program case) (g.C.FollowingCode.frames case) (g.C.FollowingCode.places case) (record {
+      runs = c.code_in_step_runs_in_step.ensures case;
       step = c.fine_machine_runs_in_step.ensures.step;
       fits = c.fine_machine_runs_in_step.ensures.fits;
       fit = c.results_fit.ensures;

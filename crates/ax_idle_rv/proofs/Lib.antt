@@ -1,0 +1,9 @@
+pub mod Falling
+pub mod Ranks
+pub mod Steps
+pub mod Reach
+pub mod Codes
+pub mod Expansions
+pub mod Drafts
+pub mod Pieces
+pub mod Bounded

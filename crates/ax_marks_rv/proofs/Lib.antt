@@ -1,0 +1,11 @@
+pub mod Items
+pub mod Ranges
+pub mod Codes
+pub mod Shapes
+pub mod Chunks
+pub mod Places
+pub mod Laying
+pub mod Targets
+pub mod Rows
+pub mod Guards
+pub mod Whole

@@ -1,0 +1,6 @@
+//! The rows of images on RV64.
+#![tactic(auto)]
+
+pub mod laws;
+
+pub use laws::inline_images_have_rows;
