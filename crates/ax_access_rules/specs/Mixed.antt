@@ -18,7 +18,7 @@ use Rattle.ax_source_run.specs.SourceValues.{type_bits}
 use Rattle.ax_rules.specs.declared.facts.Extent.{Extent}
 use Rattle.ax_rules.specs.declared.facts.Outcome.{Outcome}
 use Rattle.ax_rules.specs.declared.facts.Outcome.TheVariants as outcome
-use Rattle.ax_rules.specs.declared.facts.Scope.{Scope}
+use Rattle.ax_rules.specs.declared.facts.FunctionScope.{FunctionScope}
 use Rattle.ax_rules.specs.declared.facts.Shape.{Shape}
 use Rattle.ax_rules.specs.declared.facts.Shape.TheVariants as shape
 use Rattle.ax_rules.specs.Constants.{constant_index, constant_of, is_multiple}
@@ -40,14 +40,14 @@ is_param_of t None = false
 is_param_of t (Some u) = same_type t u
 
 -- an operand of another type than required; a constant is of any type
-abbrev pub is_mistyped : Scope → Ty × Operand → Bool
+abbrev pub is_mistyped : FunctionScope → Ty × Operand → Bool
 is_mistyped scope (t, operand.Const n) = false
 is_mistyped scope (t, operand.Wide n) = false
 is_mistyped scope (t, operand.Value k) = not (is_number_of t (outcome_at scope k))
 is_mistyped scope (t, operand.Param k) = not (is_param_of t (slice_get scope.params k))
 
 -- the operand of an extractvalue is the pair of a compare-exchange
-abbrev pub is_pair : Scope → Ty → Operand → Bool
+abbrev pub is_pair : FunctionScope → Ty → Operand → Bool
 is_pair scope t (operand.Value k) = is_pair_of t (outcome_at scope k)
 is_pair scope t _ = false
 
@@ -62,7 +62,7 @@ abbrev pub is_other_element : Ty → Option Extent → Bool
 is_other_element t None = false
 is_other_element t (Some e) = not (same_type t e.elem)
 
-abbrev pub is_mixed_access : Scope → Ty → Addr → Bool
+abbrev pub is_mixed_access : FunctionScope → Ty → Addr → Bool
 is_mixed_access scope t a = is_other_element t (extent_of scope (origin_of scope a.base))
 
 -- the element type, and the array's length where there is one
@@ -83,11 +83,11 @@ is_other_step elem count t v None = false
 is_other_step elem count t v (Some e) = not (is_same_extent elem count e || is_byte_step elem count t v e)
 
 -- a constant getelementptr with another element type or array length
-abbrev pub is_mixed_step : Scope → Addr → Option (Ty × ℕ × Ty × Operand) → Bool
+abbrev pub is_mixed_step : FunctionScope → Addr → Option (Ty × ℕ × Ty × Operand) → Bool
 is_mixed_step scope a None = false
 is_mixed_step scope a (Some s) = is_other_step s.0 s.1 s.2 s.3 (extent_of scope (origin_of_step scope a.base))
 
-abbrev pub is_mixed_pointer : Scope → Addr → Bool
+abbrev pub is_mixed_pointer : FunctionScope → Addr → Bool
 is_mixed_pointer scope a = is_mixed_step scope a a.step
 
 abbrev pub is_element_of : ℕ → Option Extent → Bool
@@ -95,7 +95,7 @@ is_element_of size None = true
 is_element_of size (Some e) = nat_eq (type_bytes e.elem) size
 
 -- the size isn't stated as a constant, or isn't the number of bytes of each element that is named
-abbrev pub is_mixed_size : Scope → Option ℕ → List Addr → Bool
+abbrev pub is_mixed_size : FunctionScope → Option ℕ → List Addr → Bool
 is_mixed_size scope None pointers = true
 is_mixed_size scope (Some size) pointers = list_any (λ a. not (is_element_of size (extent_of scope (origin_of scope a.base)))) pointers
 
@@ -118,11 +118,11 @@ size_by false t args = constant_in (slice_get args 0)
 abbrev pub size_of : RoutineName → List Arg → Option ℕ
 size_of routine args = size_by (is_sized (shape_of routine)) (type_of_routine routine) args
 
-abbrev pub is_mixed_call : Scope → Option RoutineName → List Arg → List Addr → Bool
+abbrev pub is_mixed_call : FunctionScope → Option RoutineName → List Arg → List Addr → Bool
 is_mixed_call scope None args pointers = false
 is_mixed_call scope (Some routine) args pointers = is_mixed_size scope (size_of routine args) pointers
 
-unfoldable pub is_mixed_inst : Scope → Inst → Bool
+unfoldable pub is_mixed_inst : FunctionScope → Inst → Bool
 is_mixed_inst scope (inst.Select c t v u w) = not (same_type t u)
 is_mixed_inst scope (inst.Convert cast t v u) = not (converts cast t u)
 is_mixed_inst scope (inst.Gep elem count b t v) = is_other_step elem count t v (extent_of scope (origin_of_step scope b))
@@ -136,5 +136,5 @@ is_mixed_inst scope (inst.Extract t v part) = not (is_pair scope t v)
 is_mixed_inst scope (inst.Call t name args) = is_mixed_call scope (called t name args) args (pointers_of (inst.Call t name args))
 is_mixed_inst scope _ = false
 
-abbrev pub mixed_fault : Scope → Inst → Bool
+abbrev pub mixed_fault : FunctionScope → Inst → Bool
 mixed_fault scope i = list_any (is_mistyped scope) (operands_of i) || is_mixed_inst scope i || list_any (is_mixed_pointer scope) (pointers_of i)

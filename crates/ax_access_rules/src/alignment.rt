@@ -13,7 +13,7 @@ use ax_module::{Addr, Base, Inst, Ty};
 use ax_rules::calls::{called, shape, type_of_routine};
 use ax_rules::constants::{constant_index, is_multiple};
 use ax_rules::types::{is_i8, is_i128};
-use ax_rules::{Extent, Origin, Outcome, Parts, Scope};
+use ax_rules::{Extent, FunctionScope, Origin, Outcome, Parts};
 use ax_target::{Target, max_native};
 use ax_words::RoutineName;
 
@@ -30,7 +30,7 @@ fn scaled_if(elem: Ty, bytes: u64, index: Option<u64>) -> Option<u64>
     }
 }
 
-fn index_of_base(scope: &Scope, bytes: u64, base: Base) -> Option<u64>
+fn index_of_base(scope: &FunctionScope, bytes: u64, base: Base) -> Option<u64>
     requires { 0 < bytes }
     ensures { result ≡ index_of_base scope.now bytes base }
 {
@@ -44,7 +44,7 @@ fn index_of_base(scope: &Scope, bytes: u64, base: Base) -> Option<u64>
 }
 
 /// The index of a pointer to elements of so many bytes. None exactly where it isn't constant.
-fn index_in(scope: &Scope, bytes: u64, a: &Addr) -> Option<u64>
+fn index_in(scope: &FunctionScope, bytes: u64, a: &Addr) -> Option<u64>
     requires { 0 < bytes }
     ensures { result ≡ index_in scope.now bytes a.now }
 {
@@ -69,7 +69,7 @@ fn are_aligned(layout: &Layout, g: u32, e: Extent, index: Option<u64>, n: u64) -
 }
 
 /// Whether a pointer to a global has an address that is no multiple of `n`.
-fn is_overstated(layout: &Layout, scope: &Scope, a: &Addr, n: u64) -> bool
+fn is_overstated(layout: &Layout, scope: &FunctionScope, a: &Addr, n: u64) -> bool
     requires { LaysOut layout.now scope.now }
     ensures { result ≡ is_overstated layout.now scope.now a.now n }
 {
@@ -90,7 +90,7 @@ fn stated(align: Option<u64>, t: Ty) -> u64
 
 fn is_unaligned_call(
     layout: &Layout,
-    scope: &Scope,
+    scope: &FunctionScope,
     routine: Option<RoutineName>,
     pointers: &[Addr],
 ) -> bool
@@ -109,7 +109,7 @@ fn is_unaligned_call(
 /// N8: whether an access to a global, or a sized call, is at an address that is no multiple of the
 /// stated alignment, or of the size.
 #[tactic(auto, unfolding(crate::specs::Alignment::overstated))]
-pub fn has_overstated(layout: &Layout, scope: &Scope, parts: &Parts, inst: &Inst) -> bool
+pub fn has_overstated(layout: &Layout, scope: &FunctionScope, parts: &Parts, inst: &Inst) -> bool
     requires parts { AreParts parts.now inst.now }
     requires layout { LaysOut layout.now scope.now }
     ensures { result ≡ overstated layout.now scope.now inst.now }
@@ -137,7 +137,7 @@ fn is_locked(address: u64, bytes: u64, t: Target) -> bool
     bytes > max_native(t) as u64 || address % bytes != 0
 }
 
-fn is_plain_locked(layout: &Layout, scope: &Scope, t: Target, origin: Origin) -> bool
+fn is_plain_locked(layout: &Layout, scope: &FunctionScope, t: Target, origin: Origin) -> bool
     requires { LaysOut layout.now scope.now }
     ensures { result ≡ is_plain_locked layout.now t scope.now origin }
 {
@@ -153,7 +153,7 @@ fn is_plain_locked(layout: &Layout, scope: &Scope, t: Target, origin: Origin) ->
 /// N9: whether an instruction is a plain load or store of a global that is locked or has i128
 /// elements.
 #[tactic(auto, unfolding(crate::specs::Alignment::plain_locked))]
-pub fn has_plain_locked(layout: &Layout, scope: &Scope, t: Target, inst: &Inst) -> bool
+pub fn has_plain_locked(layout: &Layout, scope: &FunctionScope, t: Target, inst: &Inst) -> bool
     requires { LaysOut layout.now scope.now }
     ensures { result ≡ plain_locked layout.now t scope.now inst.now }
 {

@@ -9,7 +9,7 @@ ghost use Rattle.ax_rules.specs.Parts.{AreParts};
 use ax_module::{Addr, Base, Inst, Operand, Ty};
 use ax_rules::calls::called;
 use ax_rules::scope::{is_alloca, is_shared};
-use ax_rules::{Parts, Scope};
+use ax_rules::{FunctionScope, Parts};
 use ax_words::RoutineName;
 
 /// Whether an alloca stands outside the entry block.
@@ -23,19 +23,19 @@ fn is_late_alloca(block: usize, inst: &Inst) -> bool
     }
 }
 
-fn to_alloca(scope: &Scope, a: &Addr) -> bool
+fn to_alloca(scope: &FunctionScope, a: &Addr) -> bool
     ensures { result ≡ to_alloca scope.now a.now }
 {
     is_alloca(scope.origin(a.base))
 }
 
-fn to_global(scope: &Scope, a: &Addr) -> bool
+fn to_global(scope: &FunctionScope, a: &Addr) -> bool
     ensures { result ≡ to_global scope.now a.now }
 {
     is_shared(scope.origin(a.base))
 }
 
-fn is_address(scope: &Scope, v: Operand, _t: Ty) -> bool
+fn is_address(scope: &FunctionScope, v: Operand, _t: Ty) -> bool
     ensures { result ≡ is_address scope.now (_t, v) }
 {
     match v {
@@ -44,20 +44,20 @@ fn is_address(scope: &Scope, v: Operand, _t: Ty) -> bool
     }
 }
 
-fn any_to_alloca(scope: &Scope, pointers: &[Addr]) -> bool
+fn any_to_alloca(scope: &FunctionScope, pointers: &[Addr]) -> bool
     ensures { result ≡ list_any (to_alloca scope.now) pointers.now }
 {
     pointers.iter().any(|a| to_alloca(scope, a))
 }
 
-fn any_to_global(scope: &Scope, pointers: &[Addr]) -> bool
+fn any_to_global(scope: &FunctionScope, pointers: &[Addr]) -> bool
     ensures { result ≡ list_any (to_global scope.now) pointers.now }
 {
     pointers.iter().any(|a| to_global(scope, a))
 }
 
 /// Whether a routine's first pointer comes from an alloca, or another one from a global.
-fn is_misplaced(scope: &Scope, pointers: &[Addr]) -> bool
+fn is_misplaced(scope: &FunctionScope, pointers: &[Addr]) -> bool
     ensures { result ≡ is_misplaced scope.now pointers.now }
 {
     match pointers {
@@ -66,7 +66,7 @@ fn is_misplaced(scope: &Scope, pointers: &[Addr]) -> bool
     }
 }
 
-fn is_misplaced_in(scope: &Scope, routine: Option<RoutineName>, pointers: &[Addr]) -> bool
+fn is_misplaced_in(scope: &FunctionScope, routine: Option<RoutineName>, pointers: &[Addr]) -> bool
     ensures { result ≡ is_misplaced_in scope.now routine pointers.now }
 {
     match routine {
@@ -76,7 +76,7 @@ fn is_misplaced_in(scope: &Scope, routine: Option<RoutineName>, pointers: &[Addr
 }
 
 #[tactic(auto, unfolding(crate::specs::Allocas::misplaced))]
-fn has_misplaced(scope: &Scope, inst: &Inst, pointers: &[Addr]) -> bool
+fn has_misplaced(scope: &FunctionScope, inst: &Inst, pointers: &[Addr]) -> bool
     requires { pointers.now ≡ pointers_of inst.now }
     ensures { result ≡ misplaced scope.now inst.now }
 {
@@ -96,7 +96,7 @@ fn has_misplaced(scope: &Scope, inst: &Inst, pointers: &[Addr]) -> bool
     }
 }
 
-fn any_address(scope: &Scope, operands: &[(Ty, Operand)]) -> bool
+fn any_address(scope: &FunctionScope, operands: &[(Ty, Operand)]) -> bool
     ensures { result ≡ list_any (is_address scope.now) operands.now }
 {
     operands.iter().any(|(t, v)| is_address(scope, *v, *t))
@@ -104,7 +104,7 @@ fn any_address(scope: &Scope, operands: &[(Ty, Operand)]) -> bool
 
 /// N11: whether an instruction is an alloca outside the entry block, or uses an alloca's address, or
 /// a global's as an argument, where it may not stand.
-pub fn has_alloca(scope: &Scope, parts: &Parts, block: usize, inst: &Inst) -> bool
+pub fn has_alloca(scope: &FunctionScope, parts: &Parts, block: usize, inst: &Inst) -> bool
     requires { AreParts parts.now inst.now }
     ensures { result ≡ alloca_fault scope.now block inst.now }
 {

@@ -12,11 +12,11 @@ use ax_module::{Addr, Arg, Cast, Inst, Operand, Ty};
 use ax_rules::calls::{called, shape, type_of_routine};
 use ax_rules::constants::{constant_index, constant_of, is_multiple};
 use ax_rules::types::{bits, is_i8, is_same};
-use ax_rules::{Extent, Outcome, Parts, Scope, Shape};
+use ax_rules::{Extent, FunctionScope, Outcome, Parts, Shape};
 use ax_words::RoutineName;
 
 /// Whether an operand is of another type than required.
-fn is_mistyped(scope: &Scope, t: Ty, v: Operand) -> bool
+fn is_mistyped(scope: &FunctionScope, t: Ty, v: Operand) -> bool
     ensures { result ≡ is_mistyped scope.now (t, v) }
 {
     match v {
@@ -33,7 +33,7 @@ fn is_mistyped(scope: &Scope, t: Ty, v: Operand) -> bool
 }
 
 /// Whether an operand is the pair of a compare-exchange of the type.
-fn is_pair(scope: &Scope, t: Ty, v: Operand) -> bool
+fn is_pair(scope: &FunctionScope, t: Ty, v: Operand) -> bool
     ensures { result ≡ is_pair scope.now t v }
 {
     match v {
@@ -55,7 +55,7 @@ fn converts(cast: Cast, t: Ty, u: Ty) -> bool
     }
 }
 
-fn is_mixed_access(scope: &Scope, t: Ty, a: &Addr) -> bool
+fn is_mixed_access(scope: &FunctionScope, t: Ty, a: &Addr) -> bool
     ensures { result ≡ is_mixed_access scope.now t a.now }
 {
     match scope.extent(scope.origin(a.base)) {
@@ -96,7 +96,7 @@ fn is_other_step(elem: Ty, count: u64, t: Ty, v: Operand, extent: Option<Extent>
     }
 }
 
-fn is_mixed_pointer(scope: &Scope, a: Addr) -> bool
+fn is_mixed_pointer(scope: &FunctionScope, a: Addr) -> bool
     ensures { result ≡ is_mixed_pointer scope.now a }
 {
     match a.step {
@@ -122,20 +122,20 @@ fn is_element_of(size: u128, extent: Option<Extent>) -> bool
     }
 }
 
-fn is_mixed_element(scope: &Scope, size: u128, a: Addr) -> bool
+fn is_mixed_element(scope: &FunctionScope, size: u128, a: Addr) -> bool
     ensures { result ≡ not (is_element_of size (extent_of scope.now (origin_of scope.now a.base))) }
 {
     !is_element_of(size, scope.extent(scope.origin(a.base)))
 }
 
-fn any_mixed_element(scope: &Scope, size: u128, pointers: &[Addr]) -> bool
+fn any_mixed_element(scope: &FunctionScope, size: u128, pointers: &[Addr]) -> bool
     ensures { result ≡ list_any (λ a. not (is_element_of size (extent_of scope.now (origin_of scope.now a.base)))) pointers.now }
 {
     pointers.iter().any(|a| is_mixed_element(scope, size, *a))
 }
 
 /// Whether one of these pointers names an element of another size.
-fn is_mixed_size(scope: &Scope, size: Option<u128>, pointers: &[Addr]) -> bool
+fn is_mixed_size(scope: &FunctionScope, size: Option<u128>, pointers: &[Addr]) -> bool
     ensures { result ≡ is_mixed_size scope.now size pointers.now }
 {
     match size {
@@ -174,7 +174,7 @@ fn size_of(routine: RoutineName, args: &[Arg]) -> Option<u128>
 }
 
 fn is_mixed_call(
-    scope: &Scope,
+    scope: &FunctionScope,
     routine: Option<RoutineName>,
     args: &[Arg],
     pointers: &[Addr],
@@ -188,7 +188,7 @@ fn is_mixed_call(
 }
 
 #[tactic(auto, unfolding(crate::specs::Mixed::is_mixed_inst))]
-fn is_mixed_inst(scope: &Scope, inst: &Inst, pointers: &[Addr]) -> bool
+fn is_mixed_inst(scope: &FunctionScope, inst: &Inst, pointers: &[Addr]) -> bool
     requires { pointers.now ≡ pointers_of inst.now }
     ensures { result ≡ is_mixed_inst scope.now inst.now }
 {
@@ -219,13 +219,13 @@ fn is_mixed_inst(scope: &Scope, inst: &Inst, pointers: &[Addr]) -> bool
     }
 }
 
-fn any_mistyped(scope: &Scope, operands: &[(Ty, Operand)]) -> bool
+fn any_mistyped(scope: &FunctionScope, operands: &[(Ty, Operand)]) -> bool
     ensures { result ≡ list_any (is_mistyped scope.now) operands.now }
 {
     operands.iter().any(|(t, v)| is_mistyped(scope, *t, *v))
 }
 
-fn any_mixed_pointer(scope: &Scope, pointers: &[Addr]) -> bool
+fn any_mixed_pointer(scope: &FunctionScope, pointers: &[Addr]) -> bool
     ensures { result ≡ list_any (is_mixed_pointer scope.now) pointers.now }
 {
     pointers.iter().any(|a| is_mixed_pointer(scope, *a))
@@ -234,7 +234,7 @@ fn any_mixed_pointer(scope: &Scope, pointers: &[Addr]) -> bool
 /// N7: whether an instruction has an operand of another type than required, a cast that doesn't
 /// widen or narrow as named, an access or a step of another type or length than the object's, or a
 /// size that isn't the elements'.
-pub fn has_mixed_width(scope: &Scope, parts: &Parts, inst: &Inst) -> bool
+pub fn has_mixed_width(scope: &FunctionScope, parts: &Parts, inst: &Inst) -> bool
     requires { AreParts parts.now inst.now }
     ensures { result ≡ mixed_fault scope.now inst.now }
 {

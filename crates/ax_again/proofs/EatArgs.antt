@@ -14,13 +14,13 @@ use Rattle.ax_module.specs.declared.inst.Inst.TheVariants as inst
 use Rattle.ax_module.specs.Names.{global_token}
 use Rattle.ax_ir.specs.OperandTokens.{parted, type_tokens, operand_token, typed_tokens, pointer_tokens, gep_tokens, constant_gep_tokens, step_tokens, addr_tokens, arg_tokens}
 use Rattle.ax_ir.specs.InstTokens.{result_type_tokens, inst_tokens}
-use Rattle.ax_module.specs.WellFormed.{Scope, is_type, is_typed, is_base, is_step, is_addr, is_arg, is_operand, is_result_type, is_callee_name, is_inst}
+use Rattle.ax_module.specs.WellFormed.{NameCounts, is_type, is_typed, is_base, is_step, is_addr, is_arg, is_operand, is_result_type, is_callee_name, is_inst}
 use Rattle.ax_module.specs.Ranges.{is_word, is_in_range, is_step_in_range, is_arg_in_range, is_inst_in_range}
 use Rattle.ax_symbols.specs.declared.symbol.Sign.{Sign}
 use Rattle.ax_symbols.specs.declared.symbol.Sign.TheVariants as sign
 use Rattle.ax_symbols.specs.declared.vocabulary.Word.TheVariants as word
 use Rattle.ax_symbols.specs.declared.symbol.Punctuation.TheVariants as mark
-use Rattle.ax_symbols.specs.declared.symbol.Span.{Span}
+use Rattle.ax_symbols.specs.declared.symbol.NameSpan.{NameSpan}
 use Rattle.ax_symbols.specs.declared.pass.Pass.TheVariants as pass
 use Rattle.ax_lines.specs.declared.statement.Argument.{Argument}
 use Rattle.ax_lines.specs.declared.statement.Statement.{Statement}
@@ -60,7 +60,7 @@ module _ {text : List ℕ} where
   some_items item sign.Local e b = b
   some_items item _ e b = b
 
-module _ {scope : Scope} {x : Looks} {tokens : List (List ℕ)} (known : Known scope x tokens) where
+module _ {scope : NameCounts} {x : Looks} {tokens : List (List ℕ)} (known : Known scope x tokens) where
   abbrev ArgIs : Arg → Argument → Type 0
   ArgIs a p = arg_of x p ≡ Some a
 
@@ -151,12 +151,12 @@ module _ {scope : Scope} {x : Looks} {tokens : List (List ℕ)} (known : Known s
       }))
 
   -- the line states the instruction
-  pub record States (r : Option Span) (i : Inst) (l : Line) : Type 0 where
+  pub record States (r : Option NameSpan) (i : Inst) (l : Line) : Type 0 where
     pub statement : Statement
     pub line : l ≡ line.Inst r statement
     pub is : inst_of x statement ≡ Some i
 
-  call_is : (r : Option Span) (t : Option Ty) (name : List ℕ) (as' : List Arg) (u : Option Ty) (f : Span × Bool) (ps : List Argument) → u ≡ t → text_at x.text f.0 ≡ name → f.1 ≡ false → args_of x ps ≡ Some as' → States r (inst.Call t name as') (call_states r u f ps)
+  call_is : (r : Option NameSpan) (t : Option Ty) (name : List ℕ) (as' : List Arg) (u : Option Ty) (f : NameSpan × Bool) (ps : List Argument) → u ≡ t → text_at x.text f.0 ≡ name → f.1 ≡ false → args_of x ps ≡ Some as' → States r (inst.Call t name as') (call_states r u f ps)
   unfolding inst_of
   call_is r t name as' u f ps e n c h = record { statement = statement.Call u f.0 ps; line = ap (λ (b : Bool). cond b line.Nothing (line.Inst r (statement.Call u f.0 ps))) c; is = rw (e, n, h) refl }
 
@@ -167,7 +167,7 @@ module _ {scope : Scope} {x : Looks} {tokens : List (List ℕ)} (known : Known s
   unfolding same_word word_text
   call_no_tail = refl
 
-  pub call_eats : (r : Option Span) (t : Option Ty) (name : List ℕ) (as' : List Arg) → is_inst scope (inst.Call t name as') ≡ true → is_inst_in_range (inst.Call t name as') ≡ true → may_have r t ≡ true → Eats x.text (call false r) (inst_tokens tokens (inst.Call t name as')) [] (States r (inst.Call t name as'))
+  pub call_eats : (r : Option NameSpan) (t : Option Ty) (name : List ℕ) (as' : List Arg) → is_inst scope (inst.Call t name as') ≡ true → is_inst_in_range (inst.Call t name as') ≡ true → may_have r t ≡ true → Eats x.text (call false r) (inst_tokens tokens (inst.Call t name as')) [] (States r (inst.Call t name as'))
   unfolding call inst_tokens is_inst is_inst_in_range word_of
   call_eats r t name as' h g may =
       let a = and_parts (is_result_type t && is_callee_name name) (list_all (is_arg scope) as') h in

@@ -11,11 +11,11 @@ use Rattle.ax_module.specs.Names.{global_token}
 use Rattle.ax_ir.specs.OperandTokens.{type_tokens, operand_token, base_token}
 use Rattle.ax_module.specs.declared.operand.Arg.TheVariants as arg
 use Rattle.ax_ir.specs.InstTokens.{result_type_tokens}
-use Rattle.ax_module.specs.WellFormed.{Scope, begins_with, is_type, is_result_type, is_callee_name, is_operand, is_constant, is_base}
+use Rattle.ax_module.specs.WellFormed.{NameCounts, begins_with, is_type, is_result_type, is_callee_name, is_operand, is_constant, is_base}
 use Rattle.ax_module.specs.Ranges.{is_in_range}
 use Rattle.ax_symbols.specs.declared.symbol.Sign.TheVariants as sign
 use Rattle.ax_symbols.specs.declared.vocabulary.Word.TheVariants as word
-use Rattle.ax_symbols.specs.declared.symbol.Span.{Span}
+use Rattle.ax_symbols.specs.declared.symbol.NameSpan.{NameSpan}
 use Rattle.ax_symbols.specs.declared.pass.Pass.TheVariants as pass
 use Rattle.ax_symbols.specs.Signs.{word_text, same_sign, same_word}
 use Rattle.ax_symbols.specs.Symbols.{word_of, global_sign}
@@ -39,11 +39,11 @@ unfolding word_of
 result_quiet None us h = quiet_void pass.Plain
 result_quiet (Some t) us h = quiet_type pass.Plain t us h
 
-callee_sign : (n : Span) (c : Bool) → callee_in n (cond false sign.Lifetime (cond c sign.Intrinsic sign.Global)) ≡ Some (n, false)
+callee_sign : (n : NameSpan) (c : Bool) → callee_in n (cond false sign.Lifetime (cond c sign.Intrinsic sign.Global)) ≡ Some (n, false)
 callee_sign n true = refl
 callee_sign n false = refl
 
-callee_named : (n : Span) (name : List ℕ) → begins_with (codes "llvm.lifetime.") name ≡ false → callee_in n (global_sign name) ≡ Some (n, false)
+callee_named : (n : NameSpan) (name : List ℕ) → begins_with (codes "llvm.lifetime.") name ≡ false → callee_in n (global_sign name) ≡ Some (n, false)
 callee_named n name h = ap (λ (b : Bool). callee_in n (cond b sign.Lifetime (cond (begins_with (codes "llvm.") name) sign.Intrinsic sign.Global))) h ∙ callee_sign n (begins_with (codes "llvm.") name)
 
 module _ {text : List ℕ} where
@@ -54,7 +54,7 @@ module _ {text : List ℕ} where
     u ← type_eats t h
     eaten (ap (λ (x : Ty). Some x) u.1))
 
-  pub callee_eats : (name : List ℕ) {us : List (List ℕ)} → is_callee_name name ≡ true → Eats text (one callee_of) (global_token name ∷ us) us (λ (f : Span × Bool). (text_at text f.0 ≡ name) × (f.1 ≡ false))
+  pub callee_eats : (name : List ℕ) {us : List (List ℕ)} → is_callee_name name ≡ true → Eats text (one callee_of) (global_token name ∷ us) us (λ (f : NameSpan × Bool). (text_at text f.0 ≡ name) × (f.1 ≡ false))
   callee_eats name h =
       let n = not-true _ (and_parts _ (not (begins_with (codes "llvm.lifetime.") name)) h).1 in
       one_eats (λ s f. ((s.name, false), ap (callee_in s.name) (f.sign ∙ global_token_sign name) ∙ callee_named s.name name n, (f.name ∙ global_name name, refl)))
@@ -73,7 +73,7 @@ constant_begins (operand.Wide n) c r = ap begins_pointer (decimal_sign n (ltb-tr
 constant_begins (operand.Value k) c r = absurd cc
 constant_begins (operand.Param k) c r = absurd cc
 
-constant_operand : (scope : Scope) (v : Operand) → is_constant v ≡ true → is_operand scope v ≡ true
+constant_operand : (scope : NameCounts) (v : Operand) → is_constant v ≡ true → is_operand scope v ≡ true
 constant_operand scope (operand.Const n) c = refl
 constant_operand scope (operand.Wide n) c = c
 constant_operand scope (operand.Value k) c = absurd cc
@@ -88,7 +88,7 @@ module _ {text : List ℕ} where
   cond_second g true e a = absurd (true≢false e)
   cond_second g false e a = a
 
-module _ {scope : Scope} {x : Looks} {tokens : List (List ℕ)} (known : Known scope x tokens) where
+module _ {scope : NameCounts} {x : Looks} {tokens : List (List ℕ)} (known : Known scope x tokens) where
   base_begins : (b : Base) → is_base scope b ≡ true → begins_pointer (token_sign (base_token tokens b)) ≡ true
   base_begins (base.Global g) h = let n = known.global g h in ap begins_pointer (ap token_sign n.1 ∙ global_token_sign n.0) ∙ global_begins _ _
   base_begins (base.Value k) h = refl

@@ -17,7 +17,7 @@ use Rattle.ax_module.specs.Ranges.{is_word, is_stated_word, is_in_range, is_glob
 use Rattle.ax_symbols.specs.declared.symbol.Sign.{Sign}
 use Rattle.ax_symbols.specs.declared.symbol.Sign.TheVariants as sign
 use Rattle.ax_symbols.specs.declared.vocabulary.Word.TheVariants as word
-use Rattle.ax_symbols.specs.declared.symbol.Span.{Span}
+use Rattle.ax_symbols.specs.declared.symbol.NameSpan.{NameSpan}
 use Rattle.ax_symbols.specs.declared.pass.Pass.TheVariants as pass
 use Rattle.ax_symbols.specs.declared.values.Value.{Value}
 use Rattle.ax_symbols.specs.declared.values.Value.TheVariants as value
@@ -198,7 +198,7 @@ module _ (text : List ℕ) where
 
   -- the line states the global
   pub record IsGlobalLine (g : Global) (l : Line) : Type 0 where
-    pub name : Span
+    pub name : NameSpan
     pub values : List Value
     pub line : l ≡ line.Global name g.elem g.count values g.align
     pub name_is : text_at text name ≡ g.name
@@ -210,7 +210,7 @@ module _ (text : List ℕ) where
   quiet_word : Quiet pass.Plain (sign.Word word.Global)
   quiet_word = record { passed = refl; captures = refl; align = refl; bytes = refl }
 
-  line_is : (g : Global) (n : Span) (t : Ty) (o : Option ℕ) (vs : List Value) (a : Option ℕ) → text_at text n ≡ g.name → t ≡ g.elem → o ≡ cond (g.count == 1) None (Some g.count) → InitIs g.init vs → a ≡ g.align → IsGlobalLine g (line.Global n t (count_or 1 o) (kept vs) a)
+  line_is : (g : Global) (n : NameSpan) (t : Ty) (o : Option ℕ) (vs : List Value) (a : Option ℕ) → text_at text n ≡ g.name → t ≡ g.elem → o ≡ cond (g.count == 1) None (Some g.count) → InitIs g.init vs → a ≡ g.align → IsGlobalLine g (line.Global n t (count_or 1 o) (kept vs) a)
   line_is g n t o vs a e h f i k =
       record { name = n; values = kept vs; line = rw (h, k) (ap (λ (c : ℕ). line.Global n g.elem c (kept vs) g.align) (ap (count_or 1) f ∙ count_is g.count)); name_is = e; values_are = i }
 

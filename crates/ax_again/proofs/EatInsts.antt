@@ -24,7 +24,7 @@ use Rattle.ax_module.specs.declared.inst.Inst.TheVariants as inst
 use Rattle.ax_module.specs.Words.{binary_word, condition_word, cast_word}
 use Rattle.ax_ir.specs.OperandTokens.{gep_tokens, type_tokens, array_tokens, elements_tokens, operand_token, typed_tokens, label_tokens, addr_tokens, align_tokens}
 use Rattle.ax_ir.specs.InstTokens.{inst_tokens, weak_tokens, scope_tokens, pair_tokens}
-use Rattle.ax_module.specs.WellFormed.{Scope, is_type, is_operand, is_typed, is_addr, is_base, is_inst}
+use Rattle.ax_module.specs.WellFormed.{NameCounts, is_type, is_operand, is_typed, is_addr, is_base, is_inst}
 use Rattle.ax_module.specs.Ranges.{is_word, is_stated_word, is_in_range, is_addr_in_range, is_inst_in_range}
 use Rattle.ax_symbols.specs.declared.symbol.Sign.{Sign}
 use Rattle.ax_symbols.specs.declared.symbol.Sign.TheVariants as sign
@@ -138,7 +138,7 @@ module _ {text : List ℕ} where
   pub order_eats : (o : Order) {us : List (List ℕ)} → Eats text (one order_of) (order_word o ∷ us) us (λ a. a ≡ o)
   order_eats o = one_eats {Q = λ a. a ≡ o} (λ s f. (o, ap order_in f.sign ∙ order_sign o, refl))
 
-module _ {scope : Scope} {x : Looks} {tokens : List (List ℕ)} (known : Known scope x tokens) where
+module _ {scope : NameCounts} {x : Looks} {tokens : List (List ℕ)} (known : Known scope x tokens) where
   abbrev pub InstIs : Inst → Statement → Type 0
   InstIs i s = inst_of x s ≡ Some i
 

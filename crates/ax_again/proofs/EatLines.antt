@@ -14,12 +14,12 @@ use Rattle.ax_module.specs.Kinds.{has_result, is_phi}
 use Rattle.ax_module.specs.Words.{binary_word, cast_word}
 use Rattle.ax_ir.specs.OperandTokens.{type_tokens, operand_token, typed_tokens, label_tokens, addr_tokens, align_tokens, value_token}
 use Rattle.ax_ir.specs.InstTokens.{inst_tokens, numbered_inst_tokens}
-use Rattle.ax_module.specs.WellFormed.{Scope, is_type, is_operand, is_typed, is_addr, is_inst}
+use Rattle.ax_module.specs.WellFormed.{NameCounts, is_type, is_operand, is_typed, is_addr, is_inst}
 use Rattle.ax_module.specs.Ranges.{is_inst_in_range}
 use Rattle.ax_symbols.specs.declared.symbol.Sign.{Sign}
 use Rattle.ax_symbols.specs.declared.symbol.Sign.TheVariants as sign
 use Rattle.ax_symbols.specs.declared.vocabulary.Word.TheVariants as word
-use Rattle.ax_symbols.specs.declared.symbol.Span.{Span}
+use Rattle.ax_symbols.specs.declared.symbol.NameSpan.{NameSpan}
 use Rattle.ax_lines.specs.declared.statement.Statement.{Statement}
 use Rattle.ax_lines.specs.declared.statement.Line.{Line}
 use Rattle.ax_symbols.specs.Signs.{word_text, same_sign, same_word}
@@ -68,32 +68,32 @@ module _ {text : List ℕ} {ts us : List (List ℕ)} {Q : Statement → Type 0} 
   second_return _ n b = b
 
 module _ {text : List ℕ} {ts us : List (List ℕ)} {Q : Line → Type 0} where
-  by_operation : (op : BinOp) (phis : Bool) (r : Option Span) (b : Sign) → Eats text (states r binary) ts us Q → Eats text (valued phis r (token_sign (binary_word op)) b) ts us Q
+  by_operation : (op : BinOp) (phis : Bool) (r : Option NameSpan) (b : Sign) → Eats text (states r binary) ts us Q → Eats text (valued phis r (token_sign (binary_word op)) b) ts us Q
   unfolding valued word_of
   by_operation bin.Add phis r b e = e
   by_operation _ phis r b e = e
 
-  by_cast : (c : Cast) (phis : Bool) (r : Option Span) (b : Sign) → Eats text (states r conversion) ts us Q → Eats text (valued phis r (token_sign (cast_word c)) b) ts us Q
+  by_cast : (c : Cast) (phis : Bool) (r : Option NameSpan) (b : Sign) → Eats text (states r conversion) ts us Q → Eats text (valued phis r (token_sign (cast_word c)) b) ts us Q
   unfolding valued word_of
   by_cast cast.Zext phis r b e = e
   by_cast _ phis r b e = e
 
-may_some : (r : Option Span) (t : Ty) → may_have r (Some t) ≡ true
+may_some : (r : Option NameSpan) (t : Ty) → may_have r (Some t) ≡ true
 may_some None t = refl
 may_some (Some s) t = refl
 
-module _ {scope : Scope} {x : Looks} {tokens : List (List ℕ)} (known : Known scope x tokens) where
-  stating : {g : Grammar Statement} {ts : List (List ℕ)} (r : Option Span) (i : Inst) → Eats x.text g ts [] (λ (s : Statement). inst_of x s ≡ Some i) → Eats x.text (states r g) ts [] (States known r i)
+module _ {scope : NameCounts} {x : Looks} {tokens : List (List ℕ)} (known : Known scope x tokens) where
+  stating : {g : Grammar Statement} {ts : List (List ℕ)} (r : Option NameSpan) (i : Inst) → Eats x.text g ts [] (λ (s : Statement). inst_of x s ≡ Some i) → Eats x.text (states r g) ts [] (States known r i)
   stating r i e = do
     s ← e
     eaten (record { statement = s.0; line = refl; is = s.1 })
 
-  phi_stated : (phis : Bool) (r : Option Span) (t : Ty) (es : List (Operand × ℕ)) → phis ≡ true → is_inst scope (inst.Phi t es) ≡ true → is_inst_in_range (inst.Phi t es) ≡ true
+  phi_stated : (phis : Bool) (r : Option NameSpan) (t : Ty) (es : List (Operand × ℕ)) → phis ≡ true → is_inst scope (inst.Phi t es) ≡ true → is_inst_in_range (inst.Phi t es) ≡ true
       → Eats x.text (states r (phi_line phis)) (inst_tokens tokens (inst.Phi t es)) [] (States known r (inst.Phi t es))
   phi_stated true r t es p h g = stating r (inst.Phi t es) (phi_eats known t es h g)
   phi_stated false r t es p h g = absurd (true≢false (sym p))
 
-  load_stated : (r : Option Span) (t : Ty) (a : Addr) (align : Option ℕ) → is_inst scope (inst.Load t a align) ≡ true → is_inst_in_range (inst.Load t a align) ≡ true
+  load_stated : (r : Option NameSpan) (t : Ty) (a : Addr) (align : Option ℕ) → is_inst scope (inst.Load t a align) ≡ true → is_inst_in_range (inst.Load t a align) ≡ true
       → Eats x.text (states r (load_line (nth_sign (inst_tokens tokens (inst.Load t a align)) 1))) (inst_tokens tokens (inst.Load t a align)) [] (States known r (inst.Load t a align))
   unfolding inst_tokens is_inst same_word word_text
   load_stated r t a align h g =
@@ -118,7 +118,7 @@ module _ {scope : Scope} {x : Looks} {tokens : List (List ℕ)} (known : Known s
       let first = type_no_word t word.Void (operand_token v ∷ []) (and_parts (is_type t) (is_operand scope v) h).0 refl refl refl in
       stating None (inst.Ret t v) (second_return _ (no_void _ first) (eat.return_eats known t v h g))
 
-  valued_eats : (phis : Bool) (r : Option Span) (i : Inst) → has_result i ≡ true → (is_phi i ≡ true → phis ≡ true) → is_inst scope i ≡ true → is_inst_in_range i ≡ true
+  valued_eats : (phis : Bool) (r : Option NameSpan) (i : Inst) → has_result i ≡ true → (is_phi i ≡ true → phis ≡ true) → is_inst scope i ≡ true → is_inst_in_range i ≡ true
       → Eats x.text (valued phis r (nth_sign (inst_tokens tokens i) 0) (nth_sign (inst_tokens tokens i) 1)) (inst_tokens tokens i) [] (States known r i)
   unfolding valued inst_tokens has_result is_phi word_of
   valued_eats phis r (inst.Bin op t v w) k p h g = by_operation op phis r _ (stating r (inst.Bin op t v w) (eat.binary_eats known op t v w h g))
@@ -161,13 +161,13 @@ module _ {scope : Scope} {x : Looks} {tokens : List (List ℕ)} (known : Known s
 
   -- the line is instruction n
   pub record Numbered (n : ℕ) (i : Inst) (l : Line) : Type 0 where
-    pub result : Option Span
+    pub result : Option NameSpan
     pub name : maybe_at x.text result ≡ cond (has_result i) (Some (codes "v" ++ decimal n)) None
     pub states : States known result i l
 
-  named_eats : (n : ℕ) {us : List (List ℕ)} → Eats x.text result_name (value_token n ∷ codes "=" ∷ us) us (λ (s : Span). text_at x.text s ≡ codes "v" ++ decimal n)
+  named_eats : (n : ℕ) {us : List (List ℕ)} → Eats x.text result_name (value_token n ∷ codes "=" ∷ us) us (λ (s : NameSpan). text_at x.text s ≡ codes "v" ++ decimal n)
   named_eats n = do
-    r ← one_eats {Q = λ (s : Span). text_at x.text s ≡ codes "v" ++ decimal n} (λ s f. (s.name, ap (local_in s.name) f.sign, f.name ∙ local_name 118 (decimal n) refl))
+    r ← one_eats {Q = λ (s : NameSpan). text_at x.text s ≡ codes "v" ++ decimal n} (λ s f. (s.name, ap (local_in s.name) f.sign, f.name ∙ local_name 118 (decimal n) refl))
     sign1 refl
     eaten r.1
 

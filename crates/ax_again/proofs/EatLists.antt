@@ -8,12 +8,12 @@ use Rattle.ax_module.specs.declared.operand.Operand.{Operand}
 use Rattle.ax_module.specs.declared.inst.Inst.TheVariants as inst
 use Rattle.ax_ir.specs.OperandTokens.{parted}
 use Rattle.ax_ir.specs.InstTokens.{entry_tokens, inst_tokens}
-use Rattle.ax_module.specs.WellFormed.{Scope, is_type, is_operand, is_entry, is_nonempty, is_inst}
+use Rattle.ax_module.specs.WellFormed.{NameCounts, is_type, is_operand, is_entry, is_nonempty, is_inst}
 use Rattle.ax_module.specs.Ranges.{is_in_range, is_inst_in_range}
 use Rattle.ax_symbols.specs.declared.symbol.Sign.{Sign}
 use Rattle.ax_symbols.specs.declared.symbol.Sign.TheVariants as sign
 use Rattle.ax_symbols.specs.declared.symbol.Punctuation.TheVariants as mark
-use Rattle.ax_symbols.specs.declared.symbol.Span.{Span}
+use Rattle.ax_symbols.specs.declared.symbol.NameSpan.{NameSpan}
 use Rattle.ax_symbols.specs.declared.symbol.Symbol.{Symbol}
 use Rattle.ax_symbols.specs.declared.values.Value.{Value}
 use Rattle.ax_lines.specs.declared.statement.Statement.{Statement}
@@ -65,8 +65,8 @@ module _ {A B : Type 0} (text : List ℕ) (item : Grammar A) (f : B → List (Li
       let t = and_parts (test x) (list_all test xs) g in
       record { holds = λ ss h. listed_of us e x xs t.0 t.1 ss (subst (SpelledAll text ss) (append_assoc (f x) (later xs) us) h) }
 
-module _ {scope : Scope} {x : Looks} {tokens : List (List ℕ)} (known : Known scope x tokens) where
-  abbrev EntryIs : Operand × ℕ → Value × Span → Type 0
+module _ {scope : NameCounts} {x : Looks} {tokens : List (List ℕ)} (known : Known scope x tokens) where
+  abbrev EntryIs : Operand × ℕ → Value × NameSpan → Type 0
   EntryIs e p = (operand_of x p.0 ≡ Some e.0) × (block_of x p.1 ≡ Some e.1)
 
   abbrev entry_test : Operand × ℕ → Bool
@@ -85,7 +85,7 @@ module _ {scope : Scope} {x : Looks} {tokens : List (List ℕ)} (known : Known s
         sign1 refl
         eaten (v.1, k.1)
 
-  incoming_is : (es : List (Operand × ℕ)) (ps : List (Value × Span)) → Each2 EntryIs es ps → incoming_of x ps ≡ Some es
+  incoming_is : (es : List (Operand × ℕ)) (ps : List (Value × NameSpan)) → Each2 EntryIs es ps → incoming_of x ps ≡ Some es
   incoming_is [] [] h = refl
   incoming_is [] (p ∷ ps) h = absurd h
   incoming_is (e ∷ es) [] h = absurd h

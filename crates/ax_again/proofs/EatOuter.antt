@@ -13,7 +13,7 @@ use Rattle.ax_module.specs.WellFormed.{is_type, is_result_type}
 use Rattle.ax_symbols.specs.declared.symbol.Sign.{Sign}
 use Rattle.ax_symbols.specs.declared.symbol.Sign.TheVariants as sign
 use Rattle.ax_symbols.specs.declared.symbol.Punctuation.TheVariants as mark
-use Rattle.ax_symbols.specs.declared.symbol.Span.{Span}
+use Rattle.ax_symbols.specs.declared.symbol.NameSpan.{NameSpan}
 use Rattle.ax_symbols.specs.declared.pass.Pass.TheVariants as pass
 use Rattle.ax_lines.specs.declared.statement.Line.{Line}
 use Rattle.ax_lines.specs.declared.statement.Line.TheVariants as line
@@ -37,14 +37,14 @@ use Rattle.ax_again.proofs.EatArgs.{type_no_close, some_items}
 module _ (text : List ℕ) where
   -- the line is the label of block k
   pub record IsLabel (k : ℕ) (l : Line) : Type 0 where
-    pub name : Span
+    pub name : NameSpan
     pub line : l ≡ line.Label name
     pub is : text_at text name ≡ codes "b" ++ decimal k
 
   label_is : (k : ℕ) → Eats text label_line ((codes "b" ++ decimal k) ∷ codes ":" ∷ []) [] (IsLabel k)
   unfolding label_line
   label_is k = do
-    b ← one_eats {Q = λ (s : Span). text_at text s ≡ codes "b" ++ decimal k}
+    b ← one_eats {Q = λ (s : NameSpan). text_at text s ≡ codes "b" ++ decimal k}
         (λ s f. (s.name, ap (λ (a : Sign). cond (is_label_sign a) (Some s.name) None) f.sign, f.name ∙ take_all (length (codes "b" ++ decimal k) - 0) (codes "b" ++ decimal k) (omega arith)))
     sign1 refl
     eaten (record { name = b.0; line = refl; is = b.1 })
@@ -76,11 +76,11 @@ later_parted k [] = refl
 later_parted k (t ∷ ts) = ap (λ (us : List (List ℕ)). (codes "," ∷ numbered_param_tokens k t) ++ us) (later_parted (k + 1) ts)
 
 module _ (text : List ℕ) where
-  abbrev ParamIs : ℕ × Ty → Ty × Span → Type 0
+  abbrev ParamIs : ℕ × Ty → Ty × NameSpan → Type 0
   ParamIs p q = (q.0 ≡ p.1) × (text_at text q.1 ≡ codes "p" ++ decimal p.0)
 
   -- the parameters from number k on
-  abbrev pub AreParams : ℕ → List Ty → List (Ty × Span) → Type 0
+  abbrev pub AreParams : ℕ → List Ty → List (Ty × NameSpan) → Type 0
   AreParams k [] [] = Unit {0}
   AreParams k [] (q ∷ qs) = ⊥
   AreParams k (t ∷ ts) [] = ⊥
@@ -91,10 +91,10 @@ module _ (text : List ℕ) where
   param_eats p us h = subst (λ (ts : List (List ℕ)). Eats text parameter ts us (ParamIs p)) (sym (append_assoc (type_tokens p.1) (param_token p.0 ∷ []) us)) (do
     t ← type_eats p.1 h
     passes (quiet_local pass.Plain)
-    s ← one_eats {Q = λ (s : Span). text_at text s ≡ codes "p" ++ decimal p.0} (λ s f. (s.name, ap (local_in s.name) f.sign, f.name ∙ local_name 112 (decimal p.0) refl))
+    s ← one_eats {Q = λ (s : NameSpan). text_at text s ≡ codes "p" ++ decimal p.0} (λ s f. (s.name, ap (local_in s.name) f.sign, f.name ∙ local_name 112 (decimal p.0) refl))
     eaten (t.1, s.1))
 
-  are_params : (k : ℕ) (ts : List Ty) (qs : List (Ty × Span)) → Each2 ParamIs (numbered k ts) qs → AreParams k ts qs
+  are_params : (k : ℕ) (ts : List Ty) (qs : List (Ty × NameSpan)) → Each2 ParamIs (numbered k ts) qs → AreParams k ts qs
   unfolding numbered
   are_params k [] [] h = tt
   are_params k [] (q ∷ qs) h = absurd h
@@ -127,20 +127,20 @@ module _ (text : List ℕ) where
 
   -- the line begins the function
   pub record IsHead (f : Function) (l : Line) : Type 0 where
-    pub name : Span
+    pub name : NameSpan
     pub result : Option Ty
-    pub params : List (Ty × Span)
+    pub params : List (Ty × NameSpan)
     pub line : l ≡ line.Define name result params
     pub name_is : text_at text name ≡ f.name
     pub result_is : result ≡ cond f.is_void None (Some f.result)
     pub params_are : AreParams 0 f.params params
 
-  global_named : (n : Span) (b c : Bool) → global_in n (cond b sign.Lifetime (cond c sign.Intrinsic sign.Global)) ≡ Some n
+  global_named : (n : NameSpan) (b c : Bool) → global_in n (cond b sign.Lifetime (cond c sign.Intrinsic sign.Global)) ≡ Some n
   global_named n true c = refl
   global_named n false true = refl
   global_named n false false = refl
 
-  pub name_eats : (name : List ℕ) {us : List (List ℕ)} → Eats text (one global_of) (global_token name ∷ us) us (λ (s : Span). text_at text s ≡ name)
+  pub name_eats : (name : List ℕ) {us : List (List ℕ)} → Eats text (one global_of) (global_token name ∷ us) us (λ (s : NameSpan). text_at text s ≡ name)
   name_eats name = one_eats (λ s f. (s.name, ap (global_in s.name) (f.sign ∙ global_token_sign name) ∙ global_named s.name _ _, f.name ∙ global_name name))
 
   result_tokens_are : (v : Bool) (t : Ty) → function_result_tokens v t ≡ result_type_tokens (cond v None (Some t))

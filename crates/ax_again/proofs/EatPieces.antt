@@ -18,12 +18,12 @@ use Rattle.ax_again.specs.Pieces.{kind_of}
 use Rattle.std.specs.List.{list_all}
 use Rattle.std.proofs.lemmas.List.{take_all, take_at, length-append}
 use Rattle.ax_ir.specs.OperandTokens.{type_tokens, align_tokens, block_token, operand_token, typed_tokens, base_token}
-use Rattle.ax_module.specs.WellFormed.{Scope, is_type, is_constant, is_value, is_operand, is_base}
+use Rattle.ax_module.specs.WellFormed.{NameCounts, is_type, is_constant, is_value, is_operand, is_base}
 use Rattle.ax_module.specs.Ranges.{is_word, is_stated_word, is_in_range}
 use Rattle.ax_symbols.specs.declared.symbol.Sign.{Sign}
 use Rattle.ax_symbols.specs.declared.symbol.Sign.TheVariants as sign
 use Rattle.ax_symbols.specs.declared.vocabulary.Word.TheVariants as word
-use Rattle.ax_symbols.specs.declared.symbol.Span.{Span}
+use Rattle.ax_symbols.specs.declared.symbol.NameSpan.{NameSpan}
 use Rattle.ax_symbols.specs.declared.symbol.Symbol.{Symbol}
 use Rattle.ax_symbols.specs.declared.pass.Pass.{Pass}
 use Rattle.ax_symbols.specs.declared.pass.Pass.TheVariants as pass
@@ -209,19 +209,19 @@ global_name name = ap (λ k. name_of k (global_token name)) (global_kind name) �
 pub global_token_sign : (name : List ℕ) → token_sign (global_token name) ≡ global_sign name
 global_token_sign name = ap (λ k. sign_of k (global_token name)) (global_kind name) ∙ ap global_sign (global_inside (is_plain name) name refl)
 
-base_global : (n : Span) (b c : Bool) → base_in n (cond b sign.Lifetime (cond c sign.Intrinsic sign.Global)) ≡ Some (named.Global n)
+base_global : (n : NameSpan) (b c : Bool) → base_in n (cond b sign.Lifetime (cond c sign.Intrinsic sign.Global)) ≡ Some (named.Global n)
 base_global n true c = refl
 base_global n false true = refl
 base_global n false false = refl
 
 -- what canonical names stand for in a function
-pub record Known (scope : Scope) (x : Looks) (tokens : List (List ℕ)) : Type 0 where
+pub record Known (scope : NameCounts) (x : Looks) (tokens : List (List ℕ)) : Type 0 where
   pub value : (k : ℕ) → is_value scope k ≡ true → x.values (codes "v" ++ decimal k) ≡ Some (meaning.Value k)
   pub param : (k : ℕ) → nat_lt k scope.params ≡ true → x.values (codes "p" ++ decimal k) ≡ Some (meaning.Param k)
   pub block : (k : ℕ) → nat_lt k scope.blocks ≡ true → x.blocks (codes "b" ++ decimal k) ≡ Some (meaning.Block k)
   pub global : (g : ℕ) → nat_lt g scope.globals ≡ true → (name : List ℕ) × (slice_index_or tokens g [] ≡ global_token name) × (x.globals name ≡ Some (meaning.Global g))
 
-constant_in : (name : Span) (v : Operand) → is_constant v ≡ true → is_in_range v ≡ true → value_in name (token_sign (operand_token v)) ≡ Some (constant_value v)
+constant_in : (name : NameSpan) (v : Operand) → is_constant v ≡ true → is_in_range v ≡ true → value_in name (token_sign (operand_token v)) ≡ Some (constant_value v)
 constant_in name (operand.Const (pos n)) c r =
     let f = ltb-true n (2 ^ 127) r in
     let d = decimal_sign n (omega (arith, f)) in
@@ -231,7 +231,7 @@ constant_in name (operand.Wide n) c r = let d = decimal_sign n (ltb-true n (2 ^ 
 constant_in name (operand.Value k) c r = absurd cc
 constant_in name (operand.Param k) c r = absurd cc
 
-module _ {scope : Scope} {x : Looks} {tokens : List (List ℕ)} (known : Known scope x tokens) where
+module _ {scope : NameCounts} {x : Looks} {tokens : List (List ℕ)} (known : Known scope x tokens) where
   pub value_eats : (v : Operand) {us : List (List ℕ)} → is_operand scope v ≡ true → is_in_range v ≡ true → Eats x.text (one value_of) (operand_token v ∷ us) us (λ w. operand_of x w ≡ Some v)
   value_eats (operand.Const n) h r = one_eats (λ s f. (value.Const n, ap (value_in s.name) f.sign ∙ constant_in s.name (operand.Const n) refl r, refl))
   value_eats (operand.Wide n) h r = one_eats (λ s f. (value.Wide n, ap (value_in s.name) f.sign ∙ constant_in s.name (operand.Wide n) h r, refl))

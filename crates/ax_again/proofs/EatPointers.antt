@@ -8,7 +8,7 @@ use Rattle.ax_module.specs.declared.operand.Base.{Base}
 use Rattle.ax_module.specs.declared.operand.Base.TheVariants as base
 use Rattle.ax_module.specs.declared.operand.Addr.{Addr}
 use Rattle.ax_ir.specs.OperandTokens.{operand_token, type_tokens, array_tokens, typed_tokens, base_token, pointer_tokens, gep_tokens, constant_gep_tokens, step_tokens, addr_tokens}
-use Rattle.ax_module.specs.WellFormed.{Scope, is_type, is_operand, is_typed, is_base, is_step, is_addr}
+use Rattle.ax_module.specs.WellFormed.{NameCounts, is_type, is_operand, is_typed, is_base, is_step, is_addr}
 use Rattle.ax_module.specs.Ranges.{is_word, is_in_range, is_step_in_range, is_addr_in_range}
 use Rattle.ax_symbols.specs.declared.symbol.Sign.{Sign}
 use Rattle.ax_symbols.specs.declared.symbol.Sign.TheVariants as sign
@@ -100,7 +100,7 @@ module _ {text : List ℕ} where
 
 -- ---- pointers
 
-module _ {scope : Scope} {x : Looks} {tokens : List (List ℕ)} (known : Known scope x tokens) where
+module _ {scope : NameCounts} {x : Looks} {tokens : List (List ℕ)} (known : Known scope x tokens) where
   -- a base begins with nothing that is passed over, and is no word
   pub base_quiet : (k : Pass) (b : Base) → is_base scope b ≡ true → Quiet k (token_sign (base_token tokens b))
   base_quiet k (base.Global g) h = let n = known.global g h in quiet_sign k (global_sign n.0) _ (ap token_sign n.1 ∙ global_token_sign n.0) (quiet_global k n.0 _ _)

@@ -23,7 +23,7 @@ use Rattle.ax_module.specs.Kinds.{has_result}
 use Rattle.ax_module.specs.Names.{is_name}
 use Rattle.ax_ir.specs.OperandTokens.{arg_tokens}
 use Rattle.ax_ir.specs.InstTokens.{entry_tokens, result_type_tokens, weak_tokens, scope_tokens, pair_tokens, inst_tokens, result_tokens, numbered_inst_tokens}
-use Rattle.ax_module.specs.WellFormed.{Scope, begins_with, is_type, is_typed, is_base, is_addr, is_arg, is_result_type, is_callee_name, is_inst}
+use Rattle.ax_module.specs.WellFormed.{NameCounts, begins_with, is_type, is_typed, is_base, is_addr, is_arg, is_result_type, is_callee_name, is_inst}
 use Rattle.ax_module.specs.Words.{binary_word, condition_word, cast_word}
 use Rattle.ax_again.proofs.Fit.{IsFit, Fit, empty, also, both, word, last, one, either, parted_where, parted_all}
 use Rattle.ax_again.proofs.Bytes.{decimal_fit, value_fit, block_fit, global_fit}
@@ -78,7 +78,7 @@ pair_fit t = word (codes "{") refl (both (type_fit t) (word (codes ",") refl (wo
 
 -- ---- instructions
 
-inst_fit : (scope : Scope) (names : List (List ℕ)) → NamesFit names scope.globals → (i : Inst) → is_inst scope i ≡ true → Fit (inst_tokens names i)
+inst_fit : (scope : NameCounts) (names : List (List ℕ)) → NamesFit names scope.globals → (i : Inst) → is_inst scope i ≡ true → Fit (inst_tokens names i)
 unfolding inst_tokens is_inst
 inst_fit scope names f (Bin op t v w) h =
     also (binary_fit op) (both (typed_fit t v) (word (codes ",") refl (one (operand_fit w))))
@@ -135,5 +135,5 @@ inst_fit scope names f (Call t name args) h =
 results_fit : (k : ℕ) (i : Inst) → Fit (result_tokens k i)
 results_fit k i = either (has_result i) (also (value_fit k) (last (codes "=") refl)) empty
 
-pub numbered_fit : (scope : Scope) (names : List (List ℕ)) → NamesFit names scope.globals → (k : ℕ) (i : Inst) → is_inst scope i ≡ true → Fit (numbered_inst_tokens names k i)
+pub numbered_fit : (scope : NameCounts) (names : List (List ℕ)) → NamesFit names scope.globals → (k : ℕ) (i : Inst) → is_inst scope i ≡ true → Fit (numbered_inst_tokens names k i)
 numbered_fit scope names f k i h = both (results_fit k i) (inst_fit scope names f i h)

@@ -18,7 +18,7 @@ use Rattle.ax_module.specs.declared.module.Module.{Module}
 use Rattle.ax_module.specs.Names.{is_name, global_token}
 use Rattle.ax_ir.specs.OperandTokens.{typed_tokens}
 use Rattle.ax_ir.specs.InstTokens.{numbered_inst_tokens}
-use Rattle.ax_module.specs.WellFormed.{Scope, begins_with, is_global_name, is_function_name, is_type, is_bit, is_nonempty, is_inst, is_order, is_block, is_function, is_init, is_global, all_differ, names_of, IsModule, scope_of}
+use Rattle.ax_module.specs.WellFormed.{NameCounts, begins_with, is_global_name, is_function_name, is_type, is_bit, is_nonempty, is_inst, is_order, is_block, is_function, is_init, is_global, all_differ, names_of, IsModule, scope_of}
 use Rattle.ax_ir.specs.Canonical.{flush, indented, init_tokens, global_tokens, later_params_tokens, params_tokens, function_result_tokens, define_tokens, label_line, inst_lines, blocks_lines, function_lines, global_line, names_tokens, module_lines, module_text}
 use Rattle.ax_again.specs.Pieces.{pieces_of}
 use Rattle.ax_again.proofs.Pieces.{pieces_written}
@@ -81,13 +81,13 @@ unfolding define_tokens
 define_fit f named =
     word (codes "define") refl (both (both (result_fit f.is_void f.result) (also named (word (codes "(") refl (params_fit f.params)))) (word (codes ")") refl (last (codes "{") refl)))
 
-insts_fit : (scope : Scope) (names : List (List ℕ)) → NamesFit names scope.globals → (n : ℕ) (is : List Inst) → list_all (is_inst scope) is ≡ true → LinesFit (inst_lines names n is)
+insts_fit : (scope : NameCounts) (names : List (List ℕ)) → NamesFit names scope.globals → (n : ℕ) (is : List Inst) → list_all (is_inst scope) is ≡ true → LinesFit (inst_lines names n is)
 insts_fit scope names f n [] h = no_line
 insts_fit scope names f n (i ∷ is) h =
     let a = and_parts (is_inst scope i) (list_all (is_inst scope) is) h in
     line (indented (numbered_inst_tokens names n i)) (numbered_fit scope names f n i a.0) (insts_fit scope names f (n + 1) is a.1)
 
-blocks_fit : (scope : Scope) (names : List (List ℕ)) → NamesFit names scope.globals → (k n : ℕ) (bs : List Block) → list_all (is_block scope) bs ≡ true → LinesFit (blocks_lines names k n bs)
+blocks_fit : (scope : NameCounts) (names : List (List ℕ)) → NamesFit names scope.globals → (k n : ℕ) (bs : List Block) → list_all (is_block scope) bs ≡ true → LinesFit (blocks_lines names k n bs)
 blocks_fit scope names f k n [] h = no_line
 blocks_fit scope names f k n (b ∷ bs) h =
     let a = and_parts (is_block scope b) (list_all (is_block scope) bs) h in

@@ -15,7 +15,7 @@ use Rattle.ax_ir.specs.Canonical.{line_text, function_lines, global_line, names_
 use Rattle.ax_module.specs.WellFormed.{is_count, is_function_counted, is_function_name, is_type, is_bit, is_nonempty, is_inst, is_order, is_block, is_function, is_global, scope_of, all_differ, names_of, IsModule}
 use Rattle.ax_module.specs.Ranges.{is_function_in_range, is_global_in_range}
 use Rattle.ax_lex.specs.Written.{tokens_at}
-use Rattle.ax_symbols.specs.declared.symbol.Span.{Span}
+use Rattle.ax_symbols.specs.declared.symbol.NameSpan.{NameSpan}
 use Rattle.ax_symbols.specs.declared.symbol.Symbol.{Symbol}
 use Rattle.ax_lines.specs.declared.statement.Line.{Line}
 use Rattle.ax_lines.specs.declared.statement.Line.TheVariants as line
@@ -174,7 +174,7 @@ void_again : (v : Bool) (t : Ty) → is_none (cond v None (Some t)) ≡ v
 void_again true t = refl
 void_again false t = refl
 
-params_again : (text : List ℕ) (k : ℕ) (ts : List Ty) (ps : List (Ty × Span)) → AreParams text k ts ps → map (λ p. p.0) ps ≡ ts
+params_again : (text : List ℕ) (k : ℕ) (ts : List Ty) (ps : List (Ty × NameSpan)) → AreParams text k ts ps → map (λ p. p.0) ps ≡ ts
 params_again text k [] [] h = refl
 params_again text k [] (p ∷ ps) h = absurd h
 params_again text k (t ∷ ts) [] h = absurd h
@@ -191,7 +191,7 @@ module _ (text : List ℕ) (gs : List Global) where
   made_same f n t v ts bs a b c d e =
       ap₂ (λ (n : List ℕ) (t : Ty). made_function n t v ts bs) a b ∙ ap₂ (λ (v : Bool) (ts : List Ty). made_function f.name f.result v ts bs) c d ∙ ap (made_function f.name f.result f.is_void f.params) e
 
-  head_is : (f : Function) (n : Span) (r : Option Ty) (ps : List (Ty × Span)) (ls : List Line) → function_at text G (line.Define n r ps) ls ≡ made_function (text_at text n) (result_or r) (is_none r) (map (λ p. p.0) ps) (blocks_in (looks_of text G ps (inside_of ls)) (inside_of ls))
+  head_is : (f : Function) (n : NameSpan) (r : Option Ty) (ps : List (Ty × NameSpan)) (ls : List Line) → function_at text G (line.Define n r ps) ls ≡ made_function (text_at text n) (result_or r) (is_none r) (map (λ p. p.0) ps) (blocks_in (looks_of text G ps (inside_of ls)) (inside_of ls))
   unfolding function_at
   head_is f n r ps ls = refl
 

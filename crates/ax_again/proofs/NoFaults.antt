@@ -14,7 +14,7 @@ use Rattle.ax_module.specs.declared.module.Function.{Function}
 use Rattle.ax_module.specs.Names.{is_name}
 use Rattle.ax_module.specs.Kinds.{has_result}
 use Rattle.ax_module.specs.WellFormed.{is_function_name, insts_of}
-use Rattle.ax_symbols.specs.declared.symbol.Span.{Span}
+use Rattle.ax_symbols.specs.declared.symbol.NameSpan.{NameSpan}
 use Rattle.ax_lines.specs.declared.statement.Line.{Line}
 use Rattle.ax_lines.specs.declared.statement.Line.TheVariants as line
 use Rattle.ax_scope.specs.declared.meaning.Meaning.{Meaning}
@@ -115,16 +115,16 @@ module _ (x : Looks) (entry : List ℕ) where
 
 -- ---- parameters
 
-abbrev names_in : List ℕ → List (Ty × Span) → List (List ℕ)
+abbrev names_in : List ℕ → List (Ty × NameSpan) → List (List ℕ)
 names_in text ps = map (λ p. text_at text p.1) ps
 
-none_param : (text : List ℕ) (c : ℕ) (q : List ℕ) (k : ℕ) (ts : List Ty) (ps : List (Ty × Span)) → bytes_eq (c ∷ q) (112 ∷ decimal k) ≡ false → ((j : ℕ) → bytes_eq (c ∷ q) (112 ∷ decimal j) ≡ false) → AreParams text k ts ps → is_among (c ∷ q) (names_in text ps) ≡ false
+none_param : (text : List ℕ) (c : ℕ) (q : List ℕ) (k : ℕ) (ts : List Ty) (ps : List (Ty × NameSpan)) → bytes_eq (c ∷ q) (112 ∷ decimal k) ≡ false → ((j : ℕ) → bytes_eq (c ∷ q) (112 ∷ decimal j) ≡ false) → AreParams text k ts ps → is_among (c ∷ q) (names_in text ps) ≡ false
 none_param text c q k [] [] e f h = refl
 none_param text c q k [] (p ∷ ps) e f h = absurd h
 none_param text c q k (t ∷ ts) [] e f h = absurd h
 none_param text c q k (t ∷ ts) (p ∷ ps) e f h = or_from (bytes_eq (c ∷ q) (text_at text p.1)) (is_among (c ∷ q) (names_in text ps)) (ap (bytes_eq (c ∷ q)) (h.0).1 ∙ f k) (none_param text c q (k + 1) ts ps (f (k + 1)) f h.1)
 
-params_again : (text : List ℕ) (k : ℕ) (ts : List Ty) (ps : List (Ty × Span)) (s : List (List ℕ)) → ((j : ℕ) → k ≤ j → j < 2 ^ 64 → is_among (112 ∷ decimal j) s ≡ false) → k + length ts ≤ 2 ^ 64 → AreParams text k ts ps → again s (names_in text ps) ≡ false
+params_again : (text : List ℕ) (k : ℕ) (ts : List Ty) (ps : List (Ty × NameSpan)) (s : List (List ℕ)) → ((j : ℕ) → k ≤ j → j < 2 ^ 64 → is_among (112 ∷ decimal j) s ≡ false) → k + length ts ≤ 2 ^ 64 → AreParams text k ts ps → again s (names_in text ps) ≡ false
 params_again text k [] [] s f b h = refl
 params_again text k [] (p ∷ ps) s f b h = absurd h
 params_again text k (t ∷ ts) [] s f b h = absurd h
@@ -161,12 +161,12 @@ module _ (text : List ℕ) (gs : List Global) where
   abbrev made_looks : List (List ℕ × Meaning) → List (List ℕ × Meaning) → Looks
   made_looks vs bs = record { text = text; globals = G; values = look vs; blocks = look bs }
 
-  pub looks_are : (f : Function) (ps : List (Ty × Span)) (front : List Line) → Fits f → AreParams text 0 f.params ps → AreBlocks (can_looks text gs f) 0 0 f.blocks Nil front → looks_of text G ps front ≡ can_looks text gs f
+  pub looks_are : (f : Function) (ps : List (Ty × NameSpan)) (front : List Line) → Fits f → AreParams text 0 f.params ps → AreBlocks (can_looks text gs f) 0 0 f.blocks Nil front → looks_of text G ps front ≡ can_looks text gs f
   looks_are f ps front b p h =
       let x = can_looks text gs f in
       ap₂ made_looks (ap₂ (λ (xs ys : List (List ℕ × Meaning)). xs ++ ys) (params_are text 0 f.params ps p) (blocks_results x 0 0 f.blocks front h)) (blocks_blocks x (entry_name text ps) true 0 0 f.blocks front h)
 
-  body_fits : (f : Function) (ps : List (Ty × Span)) (front : List Line) → Fits f → AreParams text 0 f.params ps → AreBlocks (can_looks text gs f) 0 0 f.blocks Nil front → AllFalse (body_faults (body_of text G ps front) front)
+  body_fits : (f : Function) (ps : List (Ty × NameSpan)) (front : List Line) → Fits f → AreParams text 0 f.params ps → AreBlocks (can_looks text gs f) 0 0 f.blocks Nil front → AllFalse (body_faults (body_of text G ps front) front)
   body_fits f ps front b p h =
       let x = can_looks text gs f in
       subst (λ (y : Looks). AllFalse (body_faults (record { looks = y; entry = entry_name text ps; first = true; so_far = names_in text ps }) front)) (sym (looks_are f ps front b p h))
@@ -174,14 +174,14 @@ module _ (text : List ℕ) (gs : List Global) where
       (record { blocks = λ j l g. none_param text 98 (decimal j) 0 f.params ps refl (λ j. refl) p; values = λ j l g. none_param text 118 (decimal j) 0 f.params ps refl (λ j. refl) p })
       (omega (arith, b.blocks)) (omega (arith, b.insts)) h)
 
-  head_fault : (names : List (List ℕ)) (f : Function) (n : Span) (r : Option Ty) (ps : List (Ty × Span)) → Fits f → is_function_name f.name ≡ true → text_at text n ≡ f.name → AreParams text 0 f.params ps → is_among f.name names ≡ false → outer_fault text names (line.Define n r ps) ≡ false
+  head_fault : (names : List (List ℕ)) (f : Function) (n : NameSpan) (r : Option Ty) (ps : List (Ty × NameSpan)) → Fits f → is_function_name f.name ≡ true → text_at text n ≡ f.name → AreParams text 0 f.params ps → is_among f.name names ≡ false → outer_fault text names (line.Define n r ps) ≡ false
   unfolding is_reserved outer_name param_names
   head_fault names f n r ps b i e p a =
       let c = not-true (bytes_eq f.name (codes "out") || starts_with nat_eq f.name (codes "__atomic_")) (and_parts (is_name f.name) (not (bytes_eq f.name (codes "out") || starts_with nat_eq f.name (codes "__atomic_"))) i).1 in
       ap (λ (m : List ℕ). (bytes_eq m (codes "out") || starts_with nat_eq m (codes "__atomic_")) || (is_among m names || false) || again [] (names_in text ps)) e
       ∙ rw (c, a, params_again text 0 f.params ps [] (λ j l g. refl) (omega (arith, b.params)) p) refl
 
-  head_step : (names : List (List ℕ)) (n : Span) (r : Option Ty) (ps : List (Ty × Span)) (ls : List Line)
+  head_step : (names : List (List ℕ)) (n : NameSpan) (r : Option Ty) (ps : List (Ty × NameSpan)) (ls : List Line)
       → faults_from text G names None (line.Define n r ps ∷ ls) ≡ (outer_fault text names (line.Define n r ps) || false) ∷ faults_from text G (names ++ text_at text n ∷ []) (Some (body_of text G ps (inside_of ls))) ls
   unfolding outer_name is_inner body_begun
   head_step names n r ps ls = refl
@@ -212,7 +212,7 @@ module _ (text : List ℕ) (gs : List Global) where
             (behind s.1 s.0 q.params q.params_are s.3 s.4 (λ rest k. functions_fit (names ++ f.name ∷ []) fs rest b.2 fresh.1 k))),
       ))
     where
-      at_close : (front rest : List Line) (ps : List (Ty × Span)) → AreParams text 0 f.params ps → AreBlocks (can_looks text gs f) 0 0 f.blocks Nil front → AllFalse (faults_from text G (names ++ f.name ∷ []) None rest)
+      at_close : (front rest : List Line) (ps : List (Ty × NameSpan)) → AreParams text 0 f.params ps → AreBlocks (can_looks text gs f) 0 0 f.blocks Nil front → AllFalse (faults_from text G (names ++ f.name ∷ []) None rest)
           → AllFalse (faults_from text G (names ++ f.name ∷ []) (Some (body_of text G ps (inside_of (front ++ line.Close ∷ rest)))) (front ++ line.Close ∷ rest))
       at_close front rest ps p k more =
           let ns : List (List ℕ) = names ++ f.name ∷ [] in
@@ -224,7 +224,7 @@ module _ (text : List ℕ) (gs : List Global) where
           (subst (λ (xs : List Line). AllFalse (faults_from text G ns None xs)) (sym (drop_front front rest inner))
           (subst AllFalse (sym (close_step ns rest)) (refl, subst (λ (ms : List (List ℕ)). AllFalse (faults_from text G ms None rest)) (sym (append-nil ns)) more))))
 
-      behind : (rest front : List Line) (ps : List (Ty × Span)) → AreParams text 0 f.params ps → AreBlocks (can_looks text gs f) 0 0 f.blocks Nil front → Closes (AreFunctions text (can_looks text gs) fs) rest → ((rest : List Line) → AreFunctions text (can_looks text gs) fs rest → AllFalse (faults_from text G (names ++ f.name ∷ []) None rest))
+      behind : (rest front : List Line) (ps : List (Ty × NameSpan)) → AreParams text 0 f.params ps → AreBlocks (can_looks text gs f) 0 0 f.blocks Nil front → Closes (AreFunctions text (can_looks text gs) fs) rest → ((rest : List Line) → AreFunctions text (can_looks text gs) fs rest → AllFalse (faults_from text G (names ++ f.name ∷ []) None rest))
           → AllFalse (faults_from text G (names ++ f.name ∷ []) (Some (body_of text G ps (inside_of (front ++ rest)))) (front ++ rest))
       behind [] front ps p k c more = absurd c
       behind (r ∷ rest) front ps p k c more =

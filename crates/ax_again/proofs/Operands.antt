@@ -12,7 +12,7 @@ use Rattle.ax_module.specs.declared.operand.Addr.{Addr}
 use Rattle.ax_module.specs.declared.operand.Arg.{Arg}
 use Rattle.ax_module.specs.declared.operand.Arg.TheVariants as arg
 use Rattle.ax_ir.specs.OperandTokens.{type_tokens, array_tokens, elements_tokens, align_tokens, label_tokens, operand_token, typed_tokens, base_token, pointer_tokens, gep_tokens, constant_gep_tokens, step_tokens, addr_tokens, arg_tokens}
-use Rattle.ax_module.specs.WellFormed.{Scope, is_base, is_step, is_addr, is_arg}
+use Rattle.ax_module.specs.WellFormed.{NameCounts, is_base, is_step, is_addr, is_arg}
 use Rattle.ax_again.proofs.Fit.{IsFit, Fit, empty, also, both, word, last, one, either}
 use Rattle.ax_again.proofs.Bytes.{decimal_fit, signed_fit, width_fit, value_fit, param_fit, block_fit}
 
@@ -59,7 +59,7 @@ typed_fit t v = both (type_fit t) (one (operand_fit v))
 abbrev pub NamesFit : List (List ℕ) → ℕ → Type 0
 NamesFit names count = (g : ℕ) → nat_lt g count ≡ true → IsFit (slice_index_or names g [])
 
-pub base_fit : (scope : Scope) (names : List (List ℕ)) → NamesFit names scope.globals → (b : Base) → is_base scope b ≡ true → IsFit (base_token names b)
+pub base_fit : (scope : NameCounts) (names : List (List ℕ)) → NamesFit names scope.globals → (b : Base) → is_base scope b ≡ true → IsFit (base_token names b)
 base_fit scope names f (base.Global g) h = f g h
 base_fit scope names f (base.Value k) h = value_fit k
 base_fit scope names f (base.Param k) h = param_fit k
@@ -85,9 +85,9 @@ step_fit : (names : List (List ℕ)) (b : Base) (step : Option (Ty × ℕ × Ty 
 step_fit names b None f = pointer_fit names b f
 step_fit names b (Some s) f = constant_gep_fit names s.0 s.1 b s.2 s.3 f
 
-pub addr_fit : (scope : Scope) (names : List (List ℕ)) → NamesFit names scope.globals → (a : Addr) → is_addr scope a ≡ true → Fit (addr_tokens names a)
+pub addr_fit : (scope : NameCounts) (names : List (List ℕ)) → NamesFit names scope.globals → (a : Addr) → is_addr scope a ≡ true → Fit (addr_tokens names a)
 addr_fit scope names f a h = step_fit names a.base a.step (base_fit scope names f a.base (and_parts (is_base scope a.base) (is_step scope a.step) h).0)
 
-pub arg_fit : (scope : Scope) (names : List (List ℕ)) → NamesFit names scope.globals → (a : Arg) → is_arg scope a ≡ true → Fit (arg_tokens names a)
+pub arg_fit : (scope : NameCounts) (names : List (List ℕ)) → NamesFit names scope.globals → (a : Arg) → is_arg scope a ≡ true → Fit (arg_tokens names a)
 arg_fit scope names f (arg.Pointer a) h = addr_fit scope names f a h
 arg_fit scope names f (arg.Value t v) h = typed_fit t v

@@ -8,7 +8,7 @@ use Rattle.ax_module.specs.declared.inst.Inst.{Inst}
 use Rattle.ax_module.specs.declared.module.Block.{Block}
 use Rattle.ax_module.specs.Kinds.{has_result, is_terminator, is_phi}
 use Rattle.ax_module.specs.WellFormed.{is_nonempty, is_order}
-use Rattle.ax_symbols.specs.declared.symbol.Span.{Span}
+use Rattle.ax_symbols.specs.declared.symbol.NameSpan.{NameSpan}
 use Rattle.ax_lines.specs.declared.statement.Line.{Line}
 use Rattle.ax_lines.specs.declared.statement.Line.TheVariants as line
 use Rattle.ax_scope.specs.declared.meaning.Meaning.{Meaning}
@@ -81,7 +81,7 @@ inside_front (l ∷ front) rest h =
 
 -- ---- the names of a function
 
-pub params_are : (text : List ℕ) (k : ℕ) (ts : List Ty) (ps : List (Ty × Span)) → AreParams text k ts ps → params_from text k ps ≡ can_params k ts
+pub params_are : (text : List ℕ) (k : ℕ) (ts : List Ty) (ps : List (Ty × NameSpan)) → AreParams text k ts ps → params_from text k ps ≡ can_params k ts
 params_are text k [] [] h = refl
 params_are text k [] (p ∷ ps) h = absurd h
 params_are text k (t ∷ ts) [] h = absurd h

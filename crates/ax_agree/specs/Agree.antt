@@ -1,10 +1,10 @@
 -- *Agree*: a machine state and a source state.
 use Rattle.std.specs.Prelude.{◌≡◌, ℕ, ◌+◌, ◌-◌, ◌*◌, ◌/◌, Bool, true, false, ◌&&◌, ◌||◌, if◌then◌else◌, List, [], ◌∷◌}
 use Rattle.ax_store.specs.declared.entry.Entry.{Entry}
-use Rattle.ax_store.specs.Bytes.{covers, number_at}
+use Rattle.ax_map.specs.Map.{covers, lock_index_of, lock_word}
+use Rattle.ax_store.specs.Bytes.{number_at}
 use Rattle.ax_isa.specs.Run.{Machine, machine_status}
-use Rattle.ax_layout.specs.Classes.{lock_index_of, lock_word}
-use Rattle.ax_layout.specs.declared.span.Span.{Span}
+use Rattle.ax_layout.specs.declared.address_range.AddressRange.{AddressRange}
 use Rattle.ax_layout.specs.Layout.{HasElement, address_in, bytes_in}
 use Rattle.ax_source_run.specs.SourceAccess.{is_native_element}
 use Rattle.ax_source_run.specs.SourceState.{PendingStore, SourceProgram, SourceState}
@@ -18,7 +18,7 @@ abbrev pub lock_of : SourceProgram → (ℕ → ℕ) → ℕ → ℕ → ℕ
 lock_of program mem g i = number_at mem (lock_word (lock_index_of (address_in program.layout g i))) 4
 
 -- is this the address of a byte of a native object, among the globals from number g on
-abbrev pub is_native_byte : SourceProgram → ℕ → List Span → ℕ → Bool
+abbrev pub is_native_byte : SourceProgram → ℕ → List AddressRange → ℕ → Bool
 is_native_byte program g [] a = false
 is_native_byte program g (span ∷ spans) a = covers span.start (span.count * span.bytes) a && is_native_element program g ((a - span.start) / span.bytes) || is_native_byte program (g + 1) spans a
 

@@ -1,14 +1,15 @@
 -- When an image lowers a module, and that none of its processors idles.
 use Rattle.std.specs.Prelude.{◌≡◌, ℕ, ◌+◌, ◌-◌, ◌*◌, ◌/◌, ◌%◌, ◌<◌, ◌≤◌, if◌then◌else◌, List, [], ◌∷◌, Some, length, slice_get}
 use Rattle.ax_words.specs.declared.source.SourceEvent.{SourceEvent}
-use Rattle.ax_store.specs.Bytes.{byte_of, covers}
+use Rattle.ax_map.specs.Map.{covers}
+use Rattle.ax_store.specs.Bytes.{byte_of}
 use Rattle.ax_words.specs.declared.event.Event.{Event}
 use Rattle.ax_isa.specs.declared.images.Image.{Image}
 use Rattle.ax_isa.specs.Steps.{Kind}
 use Rattle.ax_isa.specs.Tells.{given_of}
 use Rattle.ax_isa.specs.Run.{Machine, machine_start, tag_at, run, explain, idle_run}
 use Rattle.ax_module.specs.declared.module.Module.{Module}
-use Rattle.ax_layout.specs.declared.span.Span.{Span}
+use Rattle.ax_layout.specs.declared.address_range.AddressRange.{AddressRange}
 use Rattle.ax_layout.specs.Layout.{next_multiple}
 use Rattle.ax_source_run.specs.SourceRun.{first_numbers, source_run, source_start}
 use Rattle.ax_source_run.specs.SourceState.{SourceProgram}
@@ -22,7 +23,7 @@ pub record AreEntriesOf (m : Module) (entries : List ℕ) : Type 0 where
   pub each : (k f : ℕ) → slice_get entries k ≡ Some f → f < length m.functions
 
 -- the byte at an address before the first event: that of the element that lies there, of the globals from number g on, and else 0
-abbrev pub byte_in : Module → ℕ → List Span → ℕ → ℕ
+abbrev pub byte_in : Module → ℕ → List AddressRange → ℕ → ℕ
 byte_in m g [] a = 0
 byte_in m g (span ∷ spans) a =
     if covers span.start (span.count * span.bytes) a

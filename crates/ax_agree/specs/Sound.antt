@@ -4,7 +4,7 @@ use Rattle.std.specs.List.{list_all}
 use Rattle.ax_words.specs.declared.place.Site.{Site}
 use Rattle.ax_module.specs.Names.{is_name}
 use Rattle.ax_module.specs.WellFormed.{all_differ}
-use Rattle.ax_store.specs.Regions.{IsFrameSize}
+use Rattle.ax_map.specs.Map.{IsFrameSize}
 use Rattle.ax_isa.specs.declared.effects.Effect.{Effect}
 use Rattle.ax_isa.specs.declared.effects.Effect.TheVariants.{Jump, CallTo}
 use Rattle.ax_isa.specs.declared.images.Image.{Image}

@@ -18,6 +18,7 @@ use Rattle.ax_agree.specs.Agree.{native_entries}
 use Rattle.ax_agree.specs.Lowers.{explanation, machine_run}
 use Rattle.ax_print.specs.Report.{processor_line, lock_line}
 use Rattle.ax_run.specs.Run.{RunState, IsOf, HasRun}
+use Rattle.ax_app.specs.Serve.{report_of}
 use Rattle.ax_app.specs.Report.{element_line, element_lines, object_part, processor_part, word_of_lock, lock_part, run_report}
 
 -- ---- elements
@@ -86,17 +87,14 @@ on_ok (Ok v) P Q f h = f h
 on_ok (Err e) P Q f h = h
 
 -- ---- a run's report once the run has gone
-module _ (globals : List (List ℕ)) where
-  abbrev pub report_of : Image RvInstr → SourceProgram → Plan → List ℕ
-  report_of image program plan =
-      run_report program globals (length plan.entries) (machine_run rv_kind image program plan.entries (events_of false plan)) (explanation rv_kind image program plan.entries (events_of false plan)) (events_of false plan)
-
-  pub gone : (r : RunState) (image : Image RvInstr) (program : SourceProgram) (plan : Plan) → IsOf image program plan r → HasRun r
-      → run_report r.program globals (length r.plan.entries) (machine_run rv_kind r.machine.image r.program r.plan.entries (events_of false r.plan)) r.machine.sources r.machine.events ≡ report_of image program plan
-  gone r image program plan of ran =
-      let m = machine_run rv_kind r.machine.image r.program r.plan.entries (events_of false r.plan) in
-      ap (λ es. run_report r.program globals (length r.plan.entries) m r.machine.sources es) ran.machine_schedule
-      ∙ ap (λ es. run_report r.program globals (length r.plan.entries) m es (events_of false r.plan)) ran.source_schedule
-      ∙ ap (λ i. report_of i r.program r.plan) of.image_is
-      ∙ ap (λ p. report_of image p r.plan) of.program_is
-      ∙ ap (λ q. report_of image program q) of.plan_is
+pub gone : (r : RunState) (image : Image RvInstr) (program : SourceProgram) (plan : Plan) → IsOf image program plan r → HasRun r
+    → run_report r.program (map (λ g. g.name) r.program.source.globals) (length r.plan.entries) (machine_run rv_kind r.machine.image r.program r.plan.entries (events_of r.program.target r.plan)) r.machine.sources r.machine.events ≡ report_of program image plan
+gone r image program plan of ran =
+    let globals = map (λ (g : Global). g.name) r.program.source.globals in
+    let events = events_of r.program.target r.plan in
+    let m = machine_run rv_kind r.machine.image r.program r.plan.entries events in
+    ap (λ es. run_report r.program globals (length r.plan.entries) m r.machine.sources es) ran.machine_schedule
+    ∙ ap (λ es. run_report r.program globals (length r.plan.entries) m es events) ran.source_schedule
+    ∙ ap (λ i. report_of r.program i r.plan) of.image_is
+    ∙ ap (λ p. report_of p image r.plan) of.program_is
+    ∙ ap (λ q. report_of program image q) of.plan_is

@@ -5,3 +5,4 @@ pub mod Places
 pub mod Serve
 pub mod Reads
 pub mod Judged
+pub mod Commands

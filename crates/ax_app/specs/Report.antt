@@ -4,7 +4,7 @@ use Rattle.ax_words.specs.declared.source.SourceEvent.{SourceEvent}
 use Rattle.ax_store.specs.Bytes.{number_at}
 use Rattle.ax_words.specs.declared.event.Event.{Event}
 use Rattle.ax_isa.specs.Run.{Machine}
-use Rattle.ax_layout.specs.Classes.{lock_word}
+use Rattle.ax_map.specs.Map.{lock_word}
 use Rattle.ax_layout.specs.Layout.{count_in}
 use Rattle.ax_source_run.specs.SourceAccess.{is_native_element}
 use Rattle.ax_source_run.specs.SourceState.{SourceProgram}

@@ -1,6 +1,7 @@
 //! Modules that are built: what the bytes of a module file come to.
 
 ghost use Rattle.std.specs.Prelude.{◌≡◌, ◌≤◌, ℕ, List, length, MatchResult};
+ghost use Rattle.ax_target.specs.declared.target.Target.{Target};
 ghost use Rattle.ax_module.specs.WellFormed.{IsModule};
 ghost use Rattle.ax_read.specs.Derivation.{IsReadFault};
 ghost use Rattle.ax_app.specs.Judged.{IsAcceptedAs, IsBuiltAs, RefusesModule, RefusesSource};
@@ -14,14 +15,8 @@ use ax_read::{ReadFault, read};
 use ax_target::Target;
 use std::alloc::Global;
 
-/// RV64 with the A extension.
-const RV64: Target = Target::Rv {
-    zabha: false,
-    zacas: false,
-};
-
 fn unread(fault: ReadFault) -> Verdict
-    ensures { (bytes : List ℕ) → IsReadFault bytes fault → RefusesModule bytes result }
+    ensures { (target : Target) (bytes : List ℕ) → IsReadFault bytes fault → RefusesModule target bytes result }
 {
     match fault {
         ReadFault::Syntax { line } => Verdict::Syntax { line },
@@ -31,16 +26,16 @@ fn unread(fault: ReadFault) -> Verdict
     }
 }
 
-/// A module without faults on RV64, or its first fault.
-fn accepted_of(alloc: Global, source: Module) -> Result<Accepted, Verdict>
+/// A module without faults on a target, or its first fault.
+fn accepted_of(alloc: Global, source: Module, target: Target) -> Result<Accepted, Verdict>
     requires { IsModule source }
-    ensures { MatchResult result (λ accepted. IsAcceptedAs source accepted) (λ v. RefusesSource source v) }
+    ensures { MatchResult result (λ accepted. IsAcceptedAs target source accepted) (λ v. RefusesSource target source v) }
 {
     let names = match Names::of(alloc, &source) {
         Ok(names) => names,
         Err(_) => return Err(Verdict::Memory),
     };
-    let refusal = match check(alloc, source, RV64) {
+    let refusal = match check(alloc, source, target) {
         Ok(accepted) => {
             accepted.is_without_faults();
             return Ok(accepted);
@@ -55,17 +50,17 @@ fn accepted_of(alloc: Global, source: Module) -> Result<Accepted, Verdict>
     }
 }
 
-/// The module of a module file's bytes, if it is built.
+/// The module of a module file's bytes, if it is built on a target.
 #[tactic(auto, using(crate::proofs::Causes::source_refused, crate::proofs::Causes::built_as, crate::proofs::Causes::unbuilt))]
-pub(crate) fn built_of(alloc: Global, bytes: &[u8]) -> Result<Accepted, Verdict>
+pub(crate) fn built_of(alloc: Global, bytes: &[u8], target: Target) -> Result<Accepted, Verdict>
     requires { length bytes.now ≤ 4194304 }
-    ensures { MatchResult result (λ accepted. IsBuiltAs bytes.now accepted) (λ v. RefusesModule bytes.now v) }
+    ensures { MatchResult result (λ accepted. IsBuiltAs target bytes.now accepted) (λ v. RefusesModule target bytes.now v) }
 {
     let source = match read(alloc, bytes) {
         Ok(source) => source,
         Err(fault) => return Err(unread(fault)),
     };
-    let accepted = match accepted_of(alloc, source) {
+    let accepted = match accepted_of(alloc, source, target) {
         Ok(accepted) => accepted,
         Err(verdict) => return Err(verdict),
     };

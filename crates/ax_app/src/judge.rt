@@ -1,15 +1,17 @@
 //! The checks of a command in their order, up to its text.
 
-ghost use Rattle.std.specs.Prelude.{◌≡◌, ◌≤◌, ℕ, List, [], length, map, IfOk, MatchResult, Some, None};
+ghost use Rattle.std.specs.Prelude.{◌≡◌, ◌≤◌, ℕ, List, [], ◌∷◌, length, map, IfOk, MatchResult};
 ghost use Rattle.std.specs.String.{string_bytes};
 ghost use Rattle.ax_app.specs.Answers.{command_of};
-ghost use Rattle.ax_app.specs.Serve.{reading, CauseOf, CauseOfMap, CauseOfRun, Reading, HasAsked, limit_of};
+ghost use Rattle.ax_app.specs.Judged.{HasModule};
+ghost use Rattle.ax_app.specs.Serve.{reading, CauseOf, CauseOfFiles, CauseOfLower, CauseOfMap, CauseOfRun, Reading, HasAsked, limit_of};
 ghost use Rattle.ax_app.specs.Reads.{ReadWhole, ReadFails};
 
 use crate::built::built_of;
-use crate::command::{map_command, run_command};
-use crate::text::run_of;
+use crate::command::{Command, command_of};
+use crate::text::{lower_of, run_of};
 use crate::verdict::{Part, Verdict};
+use ax_check::Accepted;
 use ax_io::{FileFault, Files};
 use ax_table::map_text;
 use ax_target::Target;
@@ -44,20 +46,44 @@ fn read_part<F: Files>(
     }
 }
 
+/// The module of a command's first file, if it is built on the target.
+fn module_of<F: Files>(
+    alloc: Global,
+    files: &mut F,
+    target: Target,
+    name: &str,
+) -> Result<Accepted, Verdict>
+    ensures found { MatchResult result (λ program. HasModule (reading (F.held files.old) (F.asked files.old) (F.asked files.new) (F.faults files.old) (F.faults files.new) (F.taken files.new)) target name.now program) (λ v. (rest : List (List ℕ)) → CauseOfFiles (reading (F.held files.old) (F.asked files.old) (F.asked files.new) (F.faults files.old) (F.faults files.new) (F.taken files.new)) target (name.now ∷ rest) v) }
+    ensures same { (n : List ℕ) → F.held files.new n ≡ F.held files.old n }
+{
+    let bytes = match read_part(alloc, files, Part::Module, name) {
+        Ok(bytes) => bytes,
+        Err(verdict) => return Err(verdict),
+    };
+    built_of(alloc, &bytes, target)
+}
+
+/// What the assembly of this file's module comes to.
+fn judge_lower<F: Files>(alloc: Global, files: &mut F, target: Target, name: &str) -> Verdict
+    ensures { CauseOfLower (reading (F.held files.old) (F.asked files.old) (F.asked files.new) (F.faults files.old) (F.faults files.new) (F.taken files.new)) target (name.now ∷ []) result }
+{
+    match module_of(alloc, files, target, name) {
+        Ok(accepted) => lower_of(alloc, &accepted),
+        Err(verdict) => verdict,
+    }
+}
+
 /// What the run of these files comes to.
 fn judge_run<F: Files>(
     alloc: Global,
     files: &mut F,
+    target: Target,
     module_name: &str,
     schedule_name: &str,
 ) -> Verdict
-    ensures { CauseOfRun (reading (F.held files.old) (F.asked files.old) (F.asked files.new) (F.faults files.old) (F.faults files.new) (F.taken files.new)) (module_name.now, schedule_name.now) result }
+    ensures { CauseOfRun (reading (F.held files.old) (F.asked files.old) (F.asked files.new) (F.faults files.old) (F.faults files.new) (F.taken files.new)) target (module_name.now ∷ schedule_name.now ∷ []) result }
 {
-    let bytes = match read_part(alloc, files, Part::Module, module_name) {
-        Ok(bytes) => bytes,
-        Err(verdict) => return verdict,
-    };
-    let accepted = match built_of(alloc, &bytes) {
+    let accepted = match module_of(alloc, files, target, module_name) {
         Ok(accepted) => accepted,
         Err(verdict) => return verdict,
     };
@@ -82,11 +108,16 @@ fn judge_map(alloc: Global, target: Target) -> Verdict
 pub(crate) fn judge<F: Files>(alloc: Global, words: &[String], files: &mut F) -> Verdict
     ensures { CauseOf (reading (F.held files.old) (F.asked files.old) (F.asked files.new) (F.faults files.old) (F.faults files.new) (F.taken files.new)) (command_of (map string_bytes words.now)) result }
 {
-    if let Some(target) = map_command(words) {
-        return judge_map(alloc, target);
-    }
-    match run_command(words) {
-        Some((module_name, schedule_name)) => judge_run(alloc, files, module_name, schedule_name),
+    match command_of(words) {
+        Some(Command::Lower { target, module }) => judge_lower(alloc, files, target, module),
+        Some(
+            Command::Run {
+                target,
+                module,
+                schedule,
+            },
+        ) => judge_run(alloc, files, target, module, schedule),
+        Some(Command::Map { target }) => judge_map(alloc, target),
         None => Verdict::Usage,
     }
 }

@@ -1,11 +1,11 @@
-//! The text of a run.
+//! The texts of programs: their assembly, and the reports of their runs.
 
 ghost use Rattle.std.specs.Prelude.{◌≡◌, ◌≤◌, IfOk, length, true};
 ghost use Rattle.std.specs.String.{string_bytes};
 ghost use Rattle.ax_sched.specs.Plan.{IsPlanOf};
-ghost use Rattle.ax_inline_rv.specs.Inline.{is_built};
-ghost use Rattle.ax_app.specs.Judged.{JudgesRun};
-ghost use Rattle.ax_app.specs.Serve.{IsTextOf, on_rv64};
+ghost use Rattle.ax_direct_rv.specs.Direct.{is_built};
+ghost use Rattle.ax_app.specs.Judged.{JudgesLower, JudgesRun};
+ghost use Rattle.ax_app.specs.Serve.{IsAssemblyOf, IsTextOf};
 
 use crate::report::push_report;
 use crate::verdict::Verdict;
@@ -17,12 +17,33 @@ use ax_run::prepare;
 use ax_sched::{Plan, SchedFault, read_schedule};
 use std::alloc::{AllocError, Global};
 
-/// The assembly of the module's image, and the report of its run under the plan.
+/// The assembly of a program's image.
+fn assembly_of(alloc: Global, accepted: &Accepted) -> Result<String, AllocError>
+    requires { is_built accepted.now ≡ true }
+    ensures { IfOk result (λ text. IsAssemblyOf accepted.now (string_bytes text)) }
+{
+    accepted.is_without_faults();
+    names_are_ascii();
+    let lowered = lower(alloc, accepted)?;
+    ax_print::print(alloc, &lowered)
+}
+
+/// What a program that is built comes to as assembly.
+pub(crate) fn lower_of(alloc: Global, accepted: &Accepted) -> Verdict
+    requires { is_built accepted.now ≡ true }
+    ensures { JudgesLower accepted.now result }
+{
+    match assembly_of(alloc, accepted) {
+        Ok(text) => Verdict::Text(text),
+        Err(_) => Verdict::Memory,
+    }
+}
+
+/// The assembly of the program's image, and the report of its run under the plan.
 fn text_of(alloc: Global, accepted: &Accepted, plan: &Plan) -> Result<String, AllocError>
-    requires program { accepted.now ≡ on_rv64 accepted.now.source }
     requires built { is_built accepted.now ≡ true }
     requires plan { IsPlanOf accepted.now.source plan.now }
-    ensures { IfOk result (λ text. IsTextOf accepted.now.source plan.now (string_bytes text)) }
+    ensures { IfOk result (λ text. IsTextOf accepted.now plan.now (string_bytes text)) }
 {
     accepted.is_without_faults();
     accepted_can_be_laid_out();
@@ -35,12 +56,11 @@ fn text_of(alloc: Global, accepted: &Accepted, plan: &Plan) -> Result<String, Al
     Ok(text)
 }
 
-/// What a schedule file's bytes come to for a module that is built.
+/// What a schedule file's bytes come to for a program that is built.
 pub(crate) fn run_of(alloc: Global, accepted: &Accepted, schedule: &[u8]) -> Verdict
     requires length { length schedule.now ≤ 16777216 }
-    requires program { accepted.now ≡ on_rv64 accepted.now.source }
     requires built { is_built accepted.now ≡ true }
-    ensures { JudgesRun accepted.now.source schedule.now result }
+    ensures { JudgesRun accepted.now schedule.now result }
 {
     accepted.is_without_faults();
     let plan = match read_schedule(alloc, schedule, accepted.module()) {

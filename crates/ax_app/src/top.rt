@@ -116,9 +116,10 @@ fn write<S: Sink>(alloc: Global, sink: &mut S, verdict: Verdict) -> Done
     }
 }
 
-/// Does what the words say, with these files, and writes to the sink: `run rv64 MODULE SCHEDULE`
-/// writes the assembly of the module's image for RV64 and then the report of its run under the
-/// schedule, `map TARGET` the mapping table of a target. A refusal writes its line alone.
+/// Does what the words say, with these files, and writes to the sink: `lower TARGET MODULE` writes the
+/// assembly of an image of the module on a target, `run TARGET MODULE SCHEDULE` the same and then the
+/// report of the image's run under the schedule, and `map TARGET` the mapping table. A refusal writes
+/// its line alone.
 pub fn serve<F: Files, S: Sink>(
     alloc: Global,
     words: &[String],

@@ -5,7 +5,7 @@ use Rattle.ax_module.specs.declared.module.Function.{Function}
 use Rattle.ax_module.specs.declared.module.Module.{Module}
 use Rattle.ax_target.specs.declared.target.Target.{Target}
 use Rattle.ax_layout.specs.Layout.{LayoutState, layout_of}
-use Rattle.ax_rules.specs.declared.facts.Scope.{Scope}
+use Rattle.ax_rules.specs.declared.facts.FunctionScope.{FunctionScope}
 use Rattle.ax_rules.specs.declared.rule.Rule.{Rule}
 use Rattle.ax_rules.specs.declared.rule.Rule.TheVariants.{Width, Kind, DynamicShift, UserCall, Parameter, BadOrdering, MixedWidth, AlignOverstated, PlainLocked, NotDefined, Alloca, Limit}
 use Rattle.ax_rules.specs.Facts.{scope_of}
@@ -53,4 +53,4 @@ pub here : (m : Module) (t : Target) (k : ℕ) (f : Function) (s : Spot) (layout
 here m t k f s layout setting r ready h =
     the_first m t k f s ready.fine r
     (subst (λ (l : LayoutState). FirstBy (IsFaultHere t l (scope_of m f) f s) (λ r. r) rules_in_order r) ready.laid
-    (subst (λ (c : Scope). FirstBy (IsFaultHere t layout c f s) (λ r. r) rules_in_order r) ready.scope h))
+    (subst (λ (c : FunctionScope). FirstBy (IsFaultHere t layout c f s) (λ r. r) rules_in_order r) ready.scope h))

@@ -14,12 +14,13 @@ use Rattle.ax_module.specs.declared.types.Ty.{Ty}
 use Rattle.ax_module.specs.declared.types.Ty.TheVariants.{I1, I8, I16, I32, I64, I128, Int, Float, Double, Ptr, Vector}
 use Rattle.ax_module.specs.Types.{type_bytes}
 use Rattle.ax_module.specs.WellFormed.{is_bit}
-use Rattle.ax_layout.specs.Layout.{CanBeLaidOut, IsLaidOut, LayoutState, count_in, end_after, end_of_span, globals_limit, globals_start, is_element_type, layout_of, span_after}
+use Rattle.ax_map.specs.Map.{globals_limit, globals_start}
+use Rattle.ax_layout.specs.Layout.{CanBeLaidOut, IsLaidOut, LayoutState, count_in, end_after, end_of_span, is_element_type, layout_of, span_after}
 use Rattle.ax_layout.specs.Regions.{IsThatOf}
 use Rattle.ax_layout.proofs.Elements.{those}
 use Rattle.ax_layout.proofs.Spans.{element_some}
 use Rattle.ax_rules.specs.declared.facts.Extent.{Extent}
-use Rattle.ax_rules.specs.declared.facts.Scope.{Scope}
+use Rattle.ax_rules.specs.declared.facts.FunctionScope.{FunctionScope}
 use Rattle.ax_access_rules.specs.Alignment.{LaysOut}
 use Rattle.ax_rules.specs.Facts.{extent_of_global, scope_of}
 use Rattle.ax_rules.specs.Kind.{is_other}
@@ -163,9 +164,9 @@ module _ (m : Module) (f : Function) (laid : CanBeLaidOut m) where
   }
 
 -- the same of a layout and a scope that are the module's
-pub lays_in : (m : Module) (f : Function) (layout : LayoutState) (scope : Scope) → are_globals_fine m ≡ true → layout ≡ layout_of m → scope ≡ scope_of m f → LaysOut layout scope
+pub lays_in : (m : Module) (f : Function) (layout : LayoutState) (scope : FunctionScope) → are_globals_fine m ≡ true → layout ≡ layout_of m → scope ≡ scope_of m f → LaysOut layout scope
 lays_in m f layout scope h l s =
-    subst (λ (x : LayoutState). LaysOut x scope) (sym l) (subst (λ (x : Scope). LaysOut (layout_of m) x) (sym s) (lays_out m f (can_be_laid_out m h)))
+    subst (λ (x : LayoutState). LaysOut x scope) (sym l) (subst (λ (x : FunctionScope). LaysOut (layout_of m) x) (sym s) (lays_out m f (can_be_laid_out m h)))
 
 -- one turn of the loop over globals
 pub fine_on : (m : Module) (g : ℕ) (vs : List Global) (x : Global) → g < length vs → x ≡ get_or vs g x → has_fault_at m g x ≡ false → has_fault_from m g (drop g vs) ≡ has_fault_from m 0 vs → has_fault_from m (g + 1) (drop (g + 1) vs) ≡ has_fault_from m 0 vs

@@ -4,7 +4,7 @@ use Rattle.ax_module.specs.declared.module.Function.{Function}
 use Rattle.ax_module.specs.declared.module.Module.{Module}
 use Rattle.ax_target.specs.declared.target.Target.{Target}
 use Rattle.ax_layout.specs.Layout.{LayoutState, layout_of}
-use Rattle.ax_rules.specs.declared.facts.Scope.{Scope}
+use Rattle.ax_rules.specs.declared.facts.FunctionScope.{FunctionScope}
 use Rattle.ax_rules.specs.declared.rule.Rule.{Rule}
 use Rattle.ax_rules.specs.declared.rule.Rule.TheVariants.{Width, Kind, DynamicShift, UserCall, Parameter, BadOrdering, MixedWidth, AlignOverstated, PlainLocked, NotDefined, Alloca, Limit}
 use Rattle.ax_access_rules.specs.Alignment.{LaysOut, overstated, plain_locked}
@@ -24,7 +24,7 @@ use Rattle.ax_check.specs.Facts.{Describes}
 use Rattle.ax_check.specs.Graph.{IsGraph}
 
 -- the condition of a rule at an instruction, by what it can name and where globals lie
-abbrev pub IsFaultHere : Target → LayoutState → Scope → Function → Spot → Rule → Type 0
+abbrev pub IsFaultHere : Target → LayoutState → FunctionScope → Function → Spot → Rule → Type 0
 IsFaultHere t layout scope f s Width = width_fault s.inst ≡ true
 IsFaultHere t layout scope f s Kind = kind_fault scope s.inst ≡ true
 IsFaultHere t layout scope f s DynamicShift = shift_fault s.inst ≡ true

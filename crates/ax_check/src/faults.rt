@@ -36,7 +36,7 @@ use ax_rules::width::{
     has_dynamic_shift, has_parameter, has_returned_value, has_width, has_width_at_head,
     has_width_of_global,
 };
-use ax_rules::{Parts, Rule, Scope};
+use ax_rules::{FunctionScope, Parts, Rule};
 use ax_target::Target;
 use ax_words::{Place, Site};
 use std::alloc::{AllocError, Global};
@@ -45,7 +45,7 @@ use std::alloc::{AllocError, Global};
 #[derive(Drop)]
 pub struct Setting {
     pub facts: Facts,
-    pub scope: Scope,
+    pub scope: FunctionScope,
 }
 
 /// The first rule that a global breaks.
@@ -87,7 +87,7 @@ fn rule_at_head(k: usize, f: &Function) -> Option<Rule>
 }
 
 /// The first of the rules N1 to N7 that an instruction breaks.
-fn early_rule(scope: &Scope, parts: &Parts, inst: &Inst) -> Option<Rule>
+fn early_rule(scope: &FunctionScope, parts: &Parts, inst: &Inst) -> Option<Rule>
     requires { AreParts parts.now inst.now }
     ensures { (t : Target) (layout : LayoutState) (f : Function) (b n : ℕ) → FirstBy (IsFaultHere t layout scope.now f (record { block = b; number = n; inst = inst.now })) (λ r. r) early_rules result }
 {
@@ -251,7 +251,7 @@ fn setting_of(
 {
     Ok(Setting {
         facts: Facts::of(alloc, f)?,
-        scope: Scope::of(alloc, m, f)?,
+        scope: FunctionScope::of(alloc, m, f)?,
     })
 }
 

@@ -5,7 +5,8 @@ use Rattle.std.proofs.lemmas.Bool.{eqb-true, false≢true}
 use Rattle.std.proofs.lemmas.Bool.Decides.{nat_tests}
 use Rattle.std.proofs.lemmas.Nat.{field_of}
 use Rattle.std.proofs.Math.Pow.{mod-mod-pow}
-use Rattle.ax_store.specs.Bytes.{number_at, byte_of, covers, cut, written, all_inside}
+use Rattle.ax_map.specs.Map.{covers}
+use Rattle.ax_store.specs.Bytes.{number_at, byte_of, cut, written, all_inside}
 use Rattle.ax_store.proofs.Numbers.{number_small}
 use Rattle.ax_isa.specs.Processor.{Processor}
 use Rattle.ax_mid.specs.declared.instruction.MidInst.TheVariants as mid

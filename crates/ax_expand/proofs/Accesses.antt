@@ -4,7 +4,8 @@ use Rattle.std.specs.Prelude.{◌&&◌, if◌then◌else◌}
 use Rattle.std.proofs.lemmas.Bool.{false≢true}
 use Rattle.std.proofs.lemmas.Bool.Decides.{nat_tests}
 use Rattle.ax_store.specs.declared.entry.Entry.{Entry}
-use Rattle.ax_store.specs.Bytes.{byte_of, covers, number_at}
+use Rattle.ax_map.specs.Map.{covers}
+use Rattle.ax_store.specs.Bytes.{byte_of, number_at}
 use Rattle.ax_store.specs.Storage.{at_place, byte_after, entry_of, load, newest, seen}
 use Rattle.ax_store.proofs.Numbers.{number_same}
 use Rattle.ax_isa.specs.declared.effects.Change.{Change}

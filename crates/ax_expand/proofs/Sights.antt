@@ -4,7 +4,8 @@ use Rattle.std.specs.Prelude.{◌&&◌, if◌then◌else◌}
 use Rattle.std.proofs.lemmas.Bool.{cases_eq}
 use Rattle.std.proofs.lemmas.Bool.Decides.{nat_tests}
 use Rattle.ax_store.specs.declared.entry.Entry.{Entry}
-use Rattle.ax_store.specs.Bytes.{number_at, byte_of, covers, put}
+use Rattle.ax_map.specs.Map.{covers}
+use Rattle.ax_store.specs.Bytes.{number_at, byte_of, put}
 use Rattle.ax_store.specs.Storage.{at_place, entry_of, with_waiting}
 use Rattle.ax_store.proofs.Numbers.{number_same}
 use Rattle.ax_isa.specs.Past.{Noted, with_storage, write, store, drain, drain_first}

@@ -3,7 +3,8 @@ use Rattle.std.proofs.Common.{◌≡◌, ℕ, ◌+◌, ◌-◌, ◌%◌, ◌^◌
 use Rattle.std.specs.Prelude.{◌&&◌, if◌then◌else◌, nat_eq, nat_lt, Option, Some, None}
 use Rattle.std.proofs.lemmas.Bool.{cases_eq, false≢true}
 use Rattle.std.proofs.lemmas.Bool.Decides.{nat_tests}
-use Rattle.ax_store.specs.Bytes.{number_at, byte_of, cut, covers, put, written, all_inside}
+use Rattle.ax_map.specs.Map.{covers}
+use Rattle.ax_store.specs.Bytes.{number_at, byte_of, cut, put, written, all_inside}
 use Rattle.ax_store.specs.Storage.{at_place, seen, load, entry_of}
 use Rattle.ax_isa.specs.declared.effects.Effect.{Effect}
 use Rattle.ax_isa.specs.declared.effects.Rest.{Rest}

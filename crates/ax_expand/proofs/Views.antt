@@ -4,7 +4,8 @@ use Rattle.std.specs.Prelude.{◌&&◌, if◌then◌else◌}
 use Rattle.std.proofs.lemmas.Bool.{false≢true}
 use Rattle.std.proofs.lemmas.Bool.Decides.{nat_tests}
 use Rattle.ax_store.specs.declared.entry.Entry.{Entry}
-use Rattle.ax_store.specs.Bytes.{number_at, byte_of, covers, put, written, all_inside}
+use Rattle.ax_map.specs.Map.{covers}
+use Rattle.ax_store.specs.Bytes.{number_at, byte_of, put, written, all_inside}
 use Rattle.ax_store.specs.Storage.{newest, byte_after, seen, load}
 use Rattle.ax_store.proofs.Numbers.{number_same}
 use Rattle.ax_isa.specs.Past.{Noted, drain, drain_first, store, write}

@@ -2,17 +2,13 @@
 use Rattle.std.specs.Prelude.{◌≡◌, ℕ, ◌+◌, ◌<◌, ◌≤◌, ◌%◌, ◌^◌, Bool, true, false, if◌then◌else◌, nat_lt, List, [], ◌∷◌, ◌++◌, Option, Some, None}
 use Rattle.ax_store.specs.declared.entry.Entry.{Entry}
 use Rattle.ax_store.specs.Bytes.{all_inside, put}
-use Rattle.ax_store.specs.Regions.{frame_base}
+use Rattle.ax_map.specs.Map.{frames_start}
 use Rattle.ax_store.specs.Storage.{Storage, at_place, entry_of}
 
 pub record Shared : Type 0 where
   pub inside : ℕ → Bool
   pub mem : ℕ → ℕ
   pub pending : ℕ → List Entry
-
--- where the frames begin
-abbrev pub frames_start : ℕ
-frames_start = frame_base 0
 
 -- n bytes from a on, below them
 abbrev pub IsBelow : ℕ → ℕ → Type 0

@@ -11,7 +11,8 @@ use Rattle.ax_words.specs.declared.width.Width.{Width}
 use Rattle.ax_words.specs.declared.width.Width.TheVariants.{W8, W16, W32, W64, W128}
 use Rattle.ax_words.specs.Width.{bits_of, bytes_of}
 use Rattle.ax_ops.specs.Operation.{signed}
-use Rattle.ax_store.specs.Bytes.{byte_of, covers, number_at, written}
+use Rattle.ax_map.specs.Map.{covers}
+use Rattle.ax_store.specs.Bytes.{byte_of, number_at, written}
 use Rattle.ax_store.proofs.Numbers.{number_small}
 use Rattle.ax_target.specs.declared.target.Target.{Target}
 use Rattle.ax_source_run.specs.SourceAccess.{put_at}

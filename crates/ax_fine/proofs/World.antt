@@ -6,7 +6,8 @@ use Rattle.std.proofs.lemmas.Bool.{false≢true}
 use Rattle.std.proofs.lemmas.Bool.Decides.{nat_tests}
 use Rattle.std.proofs.lemmas.Option.{same_Some}
 use Rattle.ax_store.specs.declared.entry.Entry.{Entry}
-use Rattle.ax_store.specs.Bytes.{all_inside, byte_of, covers, cut, number_at, put}
+use Rattle.ax_map.specs.Map.{covers}
+use Rattle.ax_store.specs.Bytes.{all_inside, byte_of, cut, number_at, put}
 use Rattle.ax_store.specs.Storage as storage
 use Rattle.ax_store.specs.Storage.{at_place, entry_of}
 use Rattle.ax_store.proofs.Calls.{put_small, put_written}

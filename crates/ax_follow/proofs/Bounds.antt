@@ -6,7 +6,8 @@ use Rattle.std.proofs.lemmas.Bool.Decides.{nat_tests}
 use Rattle.ax_words.specs.declared.event.Event.{Event}
 use Rattle.ax_words.specs.declared.event.Event.TheVariants.{Step, Drain, Drop}
 use Rattle.ax_store.specs.declared.entry.Entry.{Entry}
-use Rattle.ax_store.specs.Bytes.{IsWidth, byte_of, covers, number_at, put}
+use Rattle.ax_map.specs.Map.{covers}
+use Rattle.ax_store.specs.Bytes.{IsWidth, byte_of, number_at, put}
 use Rattle.ax_store.specs.Storage.{at_place, byte_after, load, may_pair, newest, seen}
 use Rattle.ax_store.proofs.Numbers.{number_small}
 use Rattle.ax_isa.specs.declared.cpu.Status.{Status}

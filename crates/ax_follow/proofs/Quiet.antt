@@ -5,7 +5,8 @@ use Rattle.std.proofs.lemmas.Bool.{cases_eq, ne_eqb}
 use Rattle.std.proofs.lemmas.Bool.Decides.{nat_tests}
 use Rattle.ax_store.specs.declared.entry.Entry.{Entry}
 use Rattle.ax_store.specs.declared.entry.Reservation.{Reservation}
-use Rattle.ax_store.specs.Bytes.{covers, put}
+use Rattle.ax_map.specs.Map.{covers}
+use Rattle.ax_store.specs.Bytes.{put}
 use Rattle.ax_store.specs.Reservations.{reaches, left_of}
 use Rattle.ax_store.specs.Storage.{Storage, at_place, entry_of, with_waiting, with_linked, may_pair}
 use Rattle.ax_isa.specs.declared.effects.Effect.{Effect}

@@ -6,7 +6,7 @@ use Rattle.ax_words.specs.declared.source.SourceStatus.{SourceStatus}
 use Rattle.ax_words.specs.declared.source.SourceStatus.TheVariants.{Running as Runs, Ended as Ends, Trapped as Traps}
 use Rattle.ax_store.specs.declared.entry.Entry.{Entry}
 use Rattle.ax_store.specs.declared.entry.Reservation.{Reservation}
-use Rattle.ax_store.specs.Bytes.{covers}
+use Rattle.ax_map.specs.Map.{covers, frame_base, frame_end, frames_start}
 use Rattle.ax_store.specs.Storage.{Storage, at_place}
 use Rattle.ax_isa.specs.declared.cpu.Status.TheVariants.{Running}
 use Rattle.ax_isa.specs.declared.effects.Outcome.{Outcome}
@@ -16,7 +16,7 @@ use Rattle.ax_isa.specs.Processor.{Processor}
 use Rattle.ax_isa.specs.Tells.{Given, Nothing, An_act, A_look, A_miss, Done, is_excused}
 pub use Rattle.ax_isa.specs.Run.{machine_status}
 use Rattle.ax_follow.specs.Bounds.{Bounded, InBounds}
-use Rattle.ax_isa.specs.Run.{Setting, step, flushing, events_of, idle_after, frame_base, outputs_of}
+use Rattle.ax_isa.specs.Run.{Setting, step, flushing, events_of, idle_after, outputs_of}
 
 -- what an event of a processor leaves: the processor, what all share, and an output; which source event it gives, and whether it is a caused failure or a busy test there
 pub record Did (P W : Type 0) : Type 0 where
@@ -62,10 +62,10 @@ pub record Reading : Type 0 where
 
 -- the addresses of p's frame, and those that p may write: its frame, and all below the frames
 abbrev pub IsOwn : ℕ → ℕ → Type 0
-IsOwn p a = (frame_base p ≤ a) × (a < frame_base p + 131072)
+IsOwn p a = (frame_base p ≤ a) × (a < frame_end p)
 
 abbrev pub MayWrite : ℕ → ℕ → Type 0
-MayWrite p a = (a < 16777216) ⊎ IsOwn p a
+MayWrite p a = (a < frames_start) ⊎ IsOwn p a
 
 -- a store reaches only what p may write
 pub record FairEntry (p : ℕ) (e : Entry) : Type 0 where

@@ -9,7 +9,7 @@ use Rattle.ax_module.specs.declared.module.Block.{Block}
 use Rattle.ax_module.specs.declared.operand.Operand.{Operand}
 use Rattle.ax_module.specs.declared.types.Ty.TheVariants.{I1}
 use Rattle.ax_module.specs.Kinds.{is_phi, is_terminator}
-use Rattle.ax_module.specs.WellFormed.{Scope, is_block, is_body, is_inst, is_nonempty, is_order}
+use Rattle.ax_module.specs.WellFormed.{NameCounts, is_block, is_body, is_inst, is_nonempty, is_order}
 use Rattle.ax_source_run.specs.SourceState.{SourceProgram}
 use Rattle.ax_mid.specs.declared.instruction.MidInst.TheVariants as mid
 use Rattle.ax_mid.specs.WellFormed.{is_last}
@@ -70,12 +70,12 @@ module _ (program : SourceProgram) (f : ℕ) (all : List Block) where
   order_ends b k (i ∷ insts) h = order_by (is_phi i) b k i insts h (λ g. order_ends b (k + 1) insts g)
 
   -- ---- blocks
-  block_ends : (scope : Scope) (b k : ℕ) (block : Block) → is_block scope block ≡ true → Ends (label_line program f k ∷ insts_lines program f all b k block.insts)
+  block_ends : (scope : NameCounts) (b k : ℕ) (block : Block) → is_block scope block ≡ true → Ends (label_line program f k ∷ insts_lines program f all b k block.insts)
   block_ends scope b k block h =
       let order = and_parts (is_order block.insts) (list_all (is_inst scope) block.insts) h in
       ends_behind (label_line program f k) [] (insts_lines program f all b k block.insts) (order_ends b k block.insts order.0)
 
-  pub blocks_end : (scope : Scope) (b k : ℕ) (blocks : List Block) → ((d : ℕ) (block : Block) → slice_get blocks d ≡ Some block → is_block scope block ≡ true) → 0 < length blocks → Ends (blocks_lines program f all b k blocks)
+  pub blocks_end : (scope : NameCounts) (b k : ℕ) (blocks : List Block) → ((d : ℕ) (block : Block) → slice_get blocks d ≡ Some block → is_block scope block ≡ true) → 0 < length blocks → Ends (blocks_lines program f all b k blocks)
   blocks_end scope b k [] h some = absurd (omega (arith, some))
   blocks_end scope b k (block ∷ []) h some = ends_alone (label_line program f k ∷ insts_lines program f all b k block.insts) (block_ends scope b k block (h 0 block refl))
   blocks_end scope b k (block ∷ next ∷ blocks) h some =

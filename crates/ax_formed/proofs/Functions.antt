@@ -5,7 +5,7 @@ use Rattle.std.proofs.lemmas.Bool.{and_parts, false≢true}
 use Rattle.ax_module.specs.declared.inst.Inst.{Inst}
 use Rattle.ax_module.specs.declared.module.Block.{Block}
 use Rattle.ax_module.specs.declared.module.Function.{Function}
-use Rattle.ax_module.specs.WellFormed.{Scope, is_block, is_inst, is_order}
+use Rattle.ax_module.specs.WellFormed.{NameCounts, is_block, is_inst, is_order}
 use Rattle.ax_source_run.specs.SourceInstructions.{first_number, insts_of_block, phi_count}
 use Rattle.ax_source_run.specs.SourceState.{SourceProgram}
 use Rattle.ax_mid.specs.declared.code.Line.{Line}
@@ -53,7 +53,7 @@ closed f lines h = led_more f (Own f (Stands lines f) lines) (Stands lines f) li
 
 module _ (program : SourceProgram) where
   -- ---- a function
-  module _ (f : ℕ) (scope : Scope) (all : List Block) (phis : (d : ℕ) → phi_count (insts_of_block all d) ≤ 64) where
+  module _ (f : ℕ) (scope : NameCounts) (all : List Block) (phis : (d : ℕ) → phi_count (insts_of_block all d) ≤ 64) where
     abbrev AreFormed : List Block → Type 0
     AreFormed blocks = (d : ℕ) (block : Block) → slice_get blocks d ≡ Some block → is_block scope block ≡ true
 
@@ -116,7 +116,7 @@ module _ (program : SourceProgram) where
 
   -- what is known of a function
   pub record IsKnown (g : Function) : Type 0 where
-    pub scope : Scope
+    pub scope : NameCounts
     pub formed : (b : ℕ) (block : Block) → slice_get g.blocks b ≡ Some block → is_block scope block ≡ true
     pub count : scope.blocks ≡ length g.blocks
     pub some : 0 < length g.blocks

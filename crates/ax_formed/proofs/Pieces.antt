@@ -10,7 +10,7 @@ use Rattle.ax_module.specs.declared.operand.Addr.{Addr}
 use Rattle.ax_module.specs.declared.operand.Operand.{Operand}
 use Rattle.ax_module.specs.declared.operand.Operand.TheVariants as operand
 use Rattle.ax_module.specs.declared.types.Ty.TheVariants.{I1}
-use Rattle.ax_module.specs.WellFormed.{Scope, is_block_number, is_inst, is_operand}
+use Rattle.ax_module.specs.WellFormed.{NameCounts, is_block_number, is_inst, is_operand}
 use Rattle.ax_source_run.specs.SourceInstructions.{first_number, insts_of_block, is_out, phi_count}
 use Rattle.ax_source_run.specs.SourceState.{Object, SourceProgram}
 use Rattle.ax_words.specs.declared.mark.Op.TheVariants as operation
@@ -186,7 +186,7 @@ module _ (f k : ℕ) where
         }
 
     -- ---- each instruction
-    module _ (program : SourceProgram) (scope : Scope) (ok : (d : ℕ) → d < scope.blocks → Ok (block_label f (first_number blocks d))) where
+    module _ (program : SourceProgram) (scope : NameCounts) (ok : (d : ℕ) → d < scope.blocks → Ok (block_label f (first_number blocks d))) where
       reach_piece : (a : Addr) (rest : Straight) → IsPlainStraight rest → IsPiece f Ok 520 (reach f k program blocks b a rest)
       reach_piece a rest h = through_piece Ok program (object_of program f a.base) rest h (index_at program f a.base a.step) (index_plain program f a.base a.step)
 

@@ -1,5 +1,5 @@
 -- The code of each line on RV64: its instructions go on from one to the next, and there are few.
-use Rattle.std.proofs.Common.{◌≡◌, ℕ, zero, suc, ◌+◌, ◌-◌, ◌*◌, ◌≤◌, Bool, true, false, ◌&&◌, ◌||◌, List, [], ◌∷◌, ◌++◌, inl, inr, length, refl, sym, ap, ◌∙◌, subst, arith, length-append}
+use Rattle.std.proofs.Common.{◌≡◌, ℕ, suc, ◌+◌, ◌-◌, ◌*◌, ◌≤◌, Bool, true, false, ◌&&◌, List, [], ◌∷◌, ◌++◌, inl, inr, length, refl, sym, ap, ◌∙◌, subst, arith, length-append}
 use Rattle.std.specs.Prelude.{◌⊎◌, IsTrue, if◌then◌else◌, nat_eq, nat_lt}
 use Rattle.std.proofs.lemmas.Bool.{and_parts, false≢true}
 use Rattle.std.proofs.lemmas.Bool.Decides.{nat_tests}
@@ -7,7 +7,7 @@ use Rattle.ax_words.specs.declared.mark.Op.{Op}
 use Rattle.ax_words.specs.declared.mark.Op.TheVariants as op
 use Rattle.ax_words.specs.declared.order.Order.{Order}
 use Rattle.ax_words.specs.declared.width.Width.{Width}
-use Rattle.ax_words.specs.declared.width.Width.TheVariants.{W8, W16, W32, W64, W128}
+use Rattle.ax_words.specs.declared.width.Width.TheVariants.{W128}
 use Rattle.ax_tags.specs.declared.tags.Tag.{Tag}
 use Rattle.ax_tags.specs.declared.tags.Tag.TheVariants as tag
 use Rattle.ax_rv.specs.declared.instructions.RvInstr.{RvInstr}
@@ -20,7 +20,7 @@ use Rattle.ax_mid.specs.declared.instruction.MidOp.TheVariants as operation
 use Rattle.ax_mid.specs.declared.registers.Virtual.{Virtual}
 use Rattle.ax_mid.specs.Machine.{behind_label}
 use Rattle.ax_mid.specs.WellFormed.{is_act, is_shaped, is_silent, words_given, words_taken}
-use Rattle.ax_expand.specs.Standing.{hush, silently}
+use Rattle.ax_expand.specs.Standing.{silently}
 use Rattle.ax_fine.specs.Fine.{is_quiet}
 use Rattle.ax_emit.specs.Atomics.{gets_all, puts_all}
 use Rattle.ax_emit_rv.specs.Code.{Expansion, cleared, computed, extend_code, first_argument, first_result, get_one, get_two, homes_from, inst_code, jump_to, load_in, op_code, piece_of, select_code, shift_of, store_in}
@@ -29,7 +29,9 @@ use Rattle.ax_selected.specs.Registers.{key}
 use Rattle.ax_selected.specs.Selected.{selected}
 use Rattle.ax_source_run.specs.SourceState.{SourceProgram}
 use Rattle.ax_image_rv.specs.Image.{frame_depth, rv_program}
-use Rattle.ax_idle_rv.proofs.Ranks.{is_straight}
+use Rattle.ax_emit.specs.Images.{drafted}
+use Rattle.ax_idle_rv.proofs.Fits.{Fits, LineCoded, coded_less, drafted_both, fits_both, fits_less, fits_none, fits_silent, one_act}
+use Rattle.ax_idle_rv.proofs.Ranks.{is_straight, rank_of}
 use Rattle.ax_idle_rv.proofs.Reach.{CalmBy, width}
 
 -- ---- lists of instructions
@@ -89,66 +91,33 @@ homes_length t [] = refl
 homes_length t (r ∷ rs) = ap suc (homes_length (t + 1) rs)
 
 -- ---- code with its marks
--- as it is tagged, each instruction has an Act or goes on
-abbrev pub Coded : Bool → List (RvInstr × Tag) → Type 0
-Coded quiet [] = Unit {0}
-Coded quiet (e ∷ es) = ((is_act (hush quiet e.1) || is_silent (hush quiet e.1)) ≡ true) × ((is_act (hush quiet e.1) || is_straight e.0) ≡ true) × Coded quiet es
-
-abbrev pub HasAct : List (RvInstr × Tag) → Type 0
-HasAct [] = ⊥
-HasAct (e ∷ es) = (is_act e.1 ≡ true) ⊎ HasAct es
-
-pub record LineCoded (quiet : Bool) (n : ℕ) (es : List (RvInstr × Tag)) : Type 0 where
-  pub coded : Coded quiet es
-  pub acts : quiet ≡ false → HasAct es
-  pub few : length es ≤ n
-
-pub silently_coded : (quiet : Bool) (is : List RvInstr) → Straights is → Coded quiet (silently is)
-silently_coded quiet [] h = tt
-silently_coded true (i ∷ is) h = (refl, h.0, silently_coded true is h.1)
-silently_coded false (i ∷ is) h = (refl, h.0, silently_coded false is h.1)
-
 pub silently_length : (is : List RvInstr) → length (silently is) ≡ length is
 silently_length [] = refl
 silently_length (i ∷ is) = ap suc (silently_length is)
 
-coded_both : (quiet : Bool) (es fs : List (RvInstr × Tag)) → Coded quiet es → Coded quiet fs → Coded quiet (es ++ fs)
-coded_both quiet [] fs h g = g
-coded_both quiet (e ∷ es) fs h g = (h.0, h.1, coded_both quiet es fs h.2 g)
-
-act_behind : (es fs : List (RvInstr × Tag)) → HasAct fs → HasAct (es ++ fs)
-act_behind [] fs h = h
-act_behind (e ∷ es) fs h = inr (act_behind es fs h)
-
-act_before : (es fs : List (RvInstr × Tag)) → HasAct es → HasAct (es ++ fs)
-act_before [] fs h = absurd h
-act_before (e ∷ es) fs (inl h) = inl h
-act_before (e ∷ es) fs (inr h) = inr (act_before es fs h)
+pub silently_code : (quiet : Bool) (n : ℕ) (is : List RvInstr) → Short n is → Fits quiet n (silently is)
+silently_code quiet n is h = fits_less quiet (length is) n (silently is) h.few (each is h.all)
+  where
+    each : (is : List RvInstr) → Straights is → Fits quiet (length is) (silently is)
+    each [] h = fits_none quiet
+    each (i ∷ is) h = fits_less quiet (1 + length is) (suc (length is)) (silently (i ∷ is)) (omega arith) (fits_both quiet 1 (length is) ((i, tag.Silent) ∷ []) (silently is) (fits_silent quiet i h.0) (each is h.1))
 
 -- silent code round other code
 pub wrapped : (quiet : Bool) (a m b : ℕ) (before after : List RvInstr) (es : List (RvInstr × Tag)) → Short a before → LineCoded quiet m es → Short b after → LineCoded quiet (a + m + b) (silently before ++ (es ++ silently after))
 wrapped quiet a m b before after es h g k =
-    let la = h.few in
-    let lm = g.few in
-    let lb = k.few in
-    let one = length-append (silently before) (es ++ silently after) in
-    let two = length-append es (silently after) in
-    let sa = silently_length before in
-    let sb = silently_length after in
+    let first = silently_code quiet a before h in
+    let last = silently_code quiet b after k in
     record {
-      coded = coded_both quiet (silently before) (es ++ silently after) (silently_coded quiet before h.all) (coded_both quiet es (silently after) g.coded (silently_coded quiet after k.all));
-      acts = λ loud. act_behind (silently before) (es ++ silently after) (act_before es (silently after) (g.acts loud));
-      few = omega (arith, la, lm, lb, one, two, sa, sb);
+      fits = fits_less quiet (a + (m + b)) (a + m + b) (silently before ++ (es ++ silently after)) (omega arith) (fits_both quiet a (m + b) (silently before) (es ++ silently after) first (fits_both quiet m b es (silently after) g.fits last));
+      acts = λ loud l ds.
+          (let whole = drafted_both quiet l (silently before) (es ++ silently after) ds in
+          let inner = drafted_both quiet l es (silently after) ds in
+          let one = first.low l (drafted quiet l (es ++ silently after) ++ ds) in
+          let two = g.acts loud l (drafted quiet l (silently after) ++ ds) in
+          let there : rank_of (drafted quiet l (silently before ++ (es ++ silently after)) ++ ds) ≡ rank_of (drafted quiet l (silently before) ++ (drafted quiet l (es ++ silently after) ++ ds)) = ap rank_of whole in
+          let here : rank_of (drafted quiet l (es ++ silently after) ++ ds) ≡ rank_of (drafted quiet l es ++ (drafted quiet l (silently after) ++ ds)) = ap rank_of inner in
+          omega (arith, one, two, there, here));
     }
-
--- an instruction that has the event
-pub one_act : (quiet : Bool) (i : RvInstr) → (quiet ≡ false) ⊎ (is_straight i ≡ true) → LineCoded quiet 1 ((i, tag.Act) ∷ [])
-one_act false i h = record { coded = (refl, refl, tt); acts = λ loud. inl refl; few = omega arith }
-one_act true i (inl h) = absurd (false≢true (sym h))
-one_act true i (inr h) = record { coded = (refl, h, tt); acts = λ loud. absurd (false≢true (sym loud)); few = omega arith }
-
-pub coded_less : (quiet : Bool) (n m : ℕ) (es : List (RvInstr × Tag)) → n ≤ m → LineCoded quiet n es → LineCoded quiet m es
-coded_less quiet n m es le h = let few = h.few in record { coded = h.coded; acts = h.acts; few = omega (arith, few, le) }
 
 -- ---- what lines compute
 op_short : (o : MidOp) → Short 2 (op_code o)
@@ -191,7 +160,7 @@ Suits quiet mid.Ret = quiet ≡ false
 Suits quiet (mid.Label n) = quiet ≡ true
 Suits quiet (mid.Branch test a b) = ⊥
 Suits quiet (mid.Call routine role args results) = ⊥
-Suits quiet (mid.Atomic o w order weak address args results) = (length args ≤ 4) × (length results ≤ 3)
+Suits quiet (mid.Atomic o w order weak address args results) = (quiet ≡ false) × (length args ≤ 4) × (length results ≤ 3)
 Suits quiet _ = Unit {0}
 
 eq_of : (a b : ℕ) → nat_eq a b ≡ true → a ≡ b
@@ -247,10 +216,10 @@ suits t (mid.Atomic o w order weak address args results) rest h calm other =
     let b = eq_of (length results) (words_given o w) all.1 in
     let c = taken_few o w in
     let d = given_few o w in
-    (omega (arith, a, c), omega (arith, b, d))
+    (loud t first.0, omega (arith, a, c), omega (arith, b, d))
 suits t _ rest h calm other = tt
 
-module _ (program : SourceProgram) (expansions : Op → Width → Order → Bool → Expansion) (expands : (quiet : Bool) (o : Op) (w : Width) (order : Order) (weak : Bool) (start : ℕ) → LineCoded quiet 6 ((expansions o w order weak).piece start)) where
+module _ (program : SourceProgram) (expansions : Op → Width → Order → Bool → Expansion) (expands : (o : Op) (w : Width) (order : Order) (weak : Bool) (start : ℕ) → LineCoded false 16 ((expansions o w order weak).piece start)) where
   pub inst_coded : (quiet : Bool) (i : MidInst Virtual) (places : ℕ → ℕ) (start : ℕ) → Suits quiet i → LineCoded quiet (width i) (inst_code (rv_program program) expansions i places start)
   unfolding piece_of
   inst_coded quiet (mid.Const to n) places start h = coded_less quiet (1 + 3) 6 _ (omega arith) (computed_coded quiet 1 to (Li 7 n ∷ []) (record { all = (refl, tt); few = omega arith }))
@@ -280,19 +249,22 @@ module _ (program : SourceProgram) (expansions : Op → Width → Order → Bool
   inst_coded quiet (mid.Store address from n) places start h =
       coded_less quiet (6 + (0 + 1 + 0) + 0) 20 _ (omega arith)
       (wrapped quiet 6 (0 + 1 + 0) 0 (get_two key address from) [] ((store_in n, tag.Act) ∷ []) (gets_short ((5, key address) ∷ (6, key from) ∷ [])) (access_coded quiet 0 (store_in n) [] refl none_short) none_short)
-  inst_coded quiet (mid.Label n) places start h = record { coded = tt; acts = λ l. absurd (false≢true (sym l ∙ h)); few = omega arith }
+  inst_coded quiet (mid.Label n) places start h = record { fits = fits_none quiet; acts = λ l. absurd (false≢true (sym l ∙ h)) }
   inst_coded quiet (mid.Jump n) places start h = coded_less quiet (0 + 1 + 0) 20 _ (omega arith) (ended_coded quiet 0 [] (jump_to start (places (behind_label key (selected program).lines n 0))) (inl h) none_short)
   inst_coded quiet (mid.Branch test a b) places start h = absurd h
   inst_coded quiet (mid.Atomic o w order weak address args results) places start h =
       let taken = homes_length first_argument args in
       let given = homes_length first_result results in
-      let few_args = h.0 in
-      let few_results = h.1 in
+      let few_args = h.1 in
+      let few_results = h.2 in
       let zs : List (ℕ × ℕ) = (10, key address) ∷ homes_from key first_argument args in
       let qs : List (ℕ × ℕ) = homes_from key first_result results in
-      coded_less quiet (15 + 6 + 9) 40 _ (omega arith)
-      (wrapped quiet 15 6 9 (gets_all rv_table zs) (puts_all rv_table qs) ((expansions o w order weak).piece (start + length (gets_all rv_table zs))) (short_less (3 * length zs) 15 (gets_all rv_table zs) (omega (arith, taken, few_args)) (gets_short zs))
-      (expands quiet o w order weak (start + length (gets_all rv_table zs))) (short_less (3 * length qs) 9 (puts_all rv_table qs) (omega (arith, given, few_results)) (puts_short qs)))
+      let before : List RvInstr = gets_all rv_table zs in
+      let piece : List (RvInstr × Tag) = (expansions o w order weak).piece (start + length before) in
+      let own : LineCoded quiet 16 piece = subst (λ (b : Bool). LineCoded b 16 piece) (sym h.0) (expands o w order weak (start + length before)) in
+      coded_less quiet (15 + 16 + 9) 40 _ (omega arith)
+      (wrapped quiet 15 16 9 before (puts_all rv_table qs) piece (short_less (3 * length zs) 15 before (omega (arith, taken, few_args)) (gets_short zs)) own
+      (short_less (3 * length qs) 9 (puts_all rv_table qs) (omega (arith, given, few_results)) (puts_short qs)))
   inst_coded quiet (mid.Call routine role args results) places start h = absurd h
   inst_coded quiet (mid.Out from) places start h = coded_less quiet (3 + 1 + 0) 20 _ (omega arith) (ended_coded quiet 3 (get_one key 10 from) Ecall (inl h) (gets_short ((10, key from) ∷ [])))
   inst_coded quiet mid.Trap places start h = coded_less quiet (0 + 1 + 0) 20 _ (omega arith) (ended_coded quiet 0 [] Ebreak (inl h) none_short)

@@ -1,6 +1,6 @@
 -- A draft of calm lines is fine: from each place it isn't far to an Act.
-use Rattle.std.proofs.Common.{◌≡◌, ℕ, zero, suc, ◌+◌, ◌*◌, ◌<◌, ◌≤◌, Bool, true, false, ◌||◌, List, [], ◌∷◌, ◌++◌, inl, inr, length, Some, refl, sym, ap, ◌∙◌, subst, arith, length-append, slice_get}
-use Rattle.std.specs.Prelude.{IsTrue, if◌then◌else◌, nat_eq, pos}
+use Rattle.std.proofs.Common.{◌≡◌, ℕ, suc, ◌+◌, ◌≤◌, Bool, true, false, List, [], ◌∷◌, ◌++◌, length, Some, refl, sym, ap, ◌∙◌, subst, arith, length-append, slice_get}
+use Rattle.std.specs.Prelude.{IsTrue, if◌then◌else◌, pos}
 use Rattle.std.proofs.lemmas.Bool.{false≢true}
 use Rattle.std.proofs.lemmas.Bool.Decides.{nat_tests}
 use Rattle.ax_words.specs.declared.mark.Op.{Op}
@@ -10,14 +10,14 @@ use Rattle.ax_tags.specs.declared.tags.Tag.{Tag}
 use Rattle.ax_tags.specs.declared.tags.Tag.TheVariants as tag
 use Rattle.ax_rv.specs.declared.instructions.Condition.TheVariants as condition
 use Rattle.ax_rv.specs.declared.instructions.RvInstr.{RvInstr}
-use Rattle.ax_rv.specs.declared.instructions.RvInstr.TheVariants.{Branch, Call, Ebreak, Ecall, Jump, LoadReserved, Ret, StoreConditional}
+use Rattle.ax_rv.specs.declared.instructions.RvInstr.TheVariants.{Branch}
 use Rattle.ax_mid.specs.declared.code.Line.{Line}
 use Rattle.ax_mid.specs.declared.instruction.MidInst.{MidInst}
 use Rattle.ax_mid.specs.declared.instruction.MidInst.TheVariants as mid
 use Rattle.ax_mid.specs.declared.registers.Virtual.{Virtual}
 use Rattle.ax_mid.specs.Machine.{behind_label, is_label, label_at}
-use Rattle.ax_mid.specs.WellFormed.{is_act, is_shaped, is_silent}
-use Rattle.ax_expand.specs.Standing.{hush, silently}
+use Rattle.ax_mid.specs.WellFormed.{is_shaped, is_silent}
+use Rattle.ax_expand.specs.Standing.{silently}
 use Rattle.ax_fine.specs.Fine.{is_quiet}
 use Rattle.ax_emit.specs.Atomics.{gets_all, puts_all}
 use Rattle.ax_emit.specs.Images.{Drafted, draft, drafted, place_of}
@@ -27,66 +27,10 @@ use Rattle.ax_selected.specs.Registers.{key}
 use Rattle.ax_selected.specs.Selected.{selected}
 use Rattle.ax_source_run.specs.SourceState.{SourceProgram}
 use Rattle.ax_image_rv.specs.Image.{rv_program}
-use Rattle.ax_idle_rv.proofs.Codes.{Coded, HasAct, IsOther, LineCoded, Straights, gets_short, inst_coded, silently_coded, silently_length, suits}
-use Rattle.ax_idle_rv.proofs.Ranks.{Fine, Going, IsInner, behind, inner_rank, is_straight, most_rank, rank_by, rank_of}
+use Rattle.ax_idle_rv.proofs.Codes.{IsOther, gets_short, inst_coded, silently_code, silently_length, suits}
+use Rattle.ax_idle_rv.proofs.Fits.{Agrees, LineCoded, agrees_behind, behind_all, drafted_both, drafted_length}
+use Rattle.ax_idle_rv.proofs.Ranks.{Fine, IsInner, behind, inner_rank, rank_of}
 use Rattle.ax_idle_rv.proofs.Reach.{Calm, CalmBy, most_reach, reach, reach_by, width}
-
--- ---- one instruction
-rank_one : (act : Bool) (i : RvInstr) (rest : ℕ) → (act || is_straight i) ≡ true → rank_by act i rest ≤ rest + 1
-rank_one true i rest h = omega arith
-rank_one false (Jump d) rest h = absurd (false≢true h)
-rank_one false (Branch c a b d) rest h = absurd (false≢true h)
-rank_one false _ rest h = omega arith
-
-going_one : (target : ℕ → ℕ) (act : Bool) (i : RvInstr) (at : ℕ) (ds : List (Drafted RvInstr)) → (act || is_straight i) ≡ true → Going target act i at ds
-going_one target true i at ds h = tt
-going_one target false (Jump d) at ds h = absurd (false≢true h)
-going_one target false (Branch c a b d) at ds h = absurd (false≢true h)
-going_one target false _ at ds h = h
-
-act_rank : (act : Bool) (i : RvInstr) (rest : ℕ) → act ≡ true → rank_by act i rest ≡ 0
-act_rank act i rest is = ap (λ (b : Bool). rank_by b i rest) is
-
--- ---- drafted code
-drafted_length : (quiet : Bool) (n : ℕ) (es : List (RvInstr × Tag)) → length (drafted quiet n es) ≡ length es
-drafted_length quiet n [] = refl
-drafted_length quiet n (e ∷ es) = ap suc (drafted_length quiet n es)
-
-drafted_both : (quiet : Bool) (n : ℕ) (es fs : List (RvInstr × Tag)) (ds : List (Drafted RvInstr)) → drafted quiet n (es ++ fs) ++ ds ≡ drafted quiet n es ++ (drafted quiet n fs ++ ds)
-drafted_both quiet n [] fs ds = refl
-drafted_both quiet n (e ∷ es) fs ds = ap (λ (xs : List (Drafted RvInstr)). record { inst = e.0; mark = e.1; tag = hush quiet e.1; line = n } ∷ xs) (drafted_both quiet n es fs ds)
-
-coded_rank : (quiet : Bool) (n : ℕ) (es : List (RvInstr × Tag)) (ds : List (Drafted RvInstr)) → Coded quiet es → rank_of (drafted quiet n es ++ ds) ≤ length es + rank_of ds
-coded_rank quiet n [] ds h = omega arith
-coded_rank quiet n (e ∷ es) ds h =
-    let more = coded_rank quiet n es ds h.2 in
-    let one = rank_one (is_act (hush quiet e.1)) e.0 (rank_of (drafted quiet n es ++ ds)) h.1 in
-    omega (arith, more, one)
-
--- code with an Act leads to it
-act_below : (n : ℕ) (es : List (RvInstr × Tag)) (ds : List (Drafted RvInstr)) → Coded false es → HasAct es → rank_of (drafted false n es ++ ds) ≤ length es
-act_below n [] ds h act = absurd act
-act_below n (e ∷ es) ds h (inl act) = let none = act_rank (is_act e.1) e.0 (rank_of (drafted false n es ++ ds)) act in omega (arith, none)
-act_below n (e ∷ es) ds h (inr act) =
-    let more = act_below n es ds h.2 act in
-    let one = rank_one (is_act e.1) e.0 (rank_of (drafted false n es ++ ds)) h.1 in
-    omega (arith, more, one)
-
-behind_all : {A : Type 0} (xs ys : List A) (k : ℕ) → behind (xs ++ ys) (length xs + k) ≡ behind ys k
-behind_all [] ys k = let same : 0 + k ≡ k = omega arith in ap (behind ys) same
-behind_all (x ∷ xs) ys k = let same : suc (length xs) + k ≡ suc (length xs + k) = omega arith in ap (behind (x ∷ (xs ++ ys))) same ∙ behind_all xs ys k
-
-module _ (target : ℕ → ℕ) where
-  coded_fine : (quiet : Bool) (n : ℕ) (es : List (RvInstr × Tag)) (at : ℕ) (ds : List (Drafted RvInstr)) → Coded quiet es → Fine target (at + length es) ds → length es + rank_of ds ≤ most_rank → Fine target at (drafted quiet n es ++ ds)
-  coded_fine quiet n [] at ds h fine few = let same : at + 0 ≡ at = omega arith in subst (λ (q : ℕ). Fine target q ds) same fine
-  coded_fine quiet n (e ∷ es) at ds h fine few =
-      let same : at + suc (length es) ≡ at + 1 + length es = omega arith in
-      let own = coded_rank quiet n (e ∷ es) ds h in (
-        omega (arith, own, few),
-        h.0,
-        going_one target (is_act (hush quiet e.1)) e.0 at (drafted quiet n es ++ ds) h.1,
-        coded_fine quiet n es (at + 1) ds h.2 (subst (λ (q : ℕ). Fine target q ds) same fine) (omega (arith, few)),
-      )
 
 -- ---- lines
 reach_other : (i : MidInst Virtual) (rest : ℕ) → IsOther i → reach_by true i rest ≡ width i + rest
@@ -120,8 +64,8 @@ label_silent : (t : Tag) (n : ℕ) → IsTrue (is_shaped {R = Virtual} t (mid.La
 unfolding is_shaped
 label_silent t n h = silent_of t h
 
-module _ (program : SourceProgram) (expansions : Op → Width → Order → Bool → Expansion) (expands : (quiet : Bool) (o : Op) (w : Width) (order : Order) (weak : Bool) (start : ℕ) → LineCoded quiet 6 ((expansions o w order weak).piece start))
-    (alike : (o : Op) (w : Width) (order : Order) (weak : Bool) (s t : ℕ) → (expansions o w order weak).piece s ≡ (expansions o w order weak).piece t) (places : ℕ → ℕ) where
+module _ (program : SourceProgram) (expansions : Op → Width → Order → Bool → Expansion) (expands : (o : Op) (w : Width) (order : Order) (weak : Bool) (start : ℕ) → LineCoded false 16 ((expansions o w order weak).piece start))
+    (alike : (o : Op) (w : Width) (order : Order) (weak : Bool) (s t : ℕ) → (expansions o w order weak).piece s ≡ (expansions o w order weak).piece t) (places rank : ℕ → ℕ) where
   abbrev code : MidInst Virtual → ℕ → List (RvInstr × Tag)
   code i at = inst_code (rv_program program) expansions i places at
 
@@ -148,78 +92,80 @@ module _ (program : SourceProgram) (expansions : Op → Width → Order → Bool
       ap (λ (es : List (RvInstr × Tag)). length (silently before ++ (es ++ silently after))) (alike o w order weak (at + length before) (0 + length before))
   same_length _ at = refl
 
-  abbrev LineBy : Tag → MidInst Virtual → ℕ → ℕ → ℕ → List (Drafted RvInstr) → Type 0
-  LineBy t i rest at n ds = Fine target at (drafted (is_quiet t) n (code i at) ++ ds) × (rank_of (drafted (is_quiet t) n (code i at) ++ ds) ≤ reach_by (is_quiet t) i rest)
+  -- where what follows is fine, a line's code is, and it isn't far to an Act
+  abbrev Lined : Bool → MidInst Virtual → ℕ → ℕ → ℕ → List (Drafted RvInstr) → Type 0
+  Lined quiet i rest at n ds =
+      (Agrees rank at (drafted quiet n (code i at) ++ ds) → Fine target rank (at + length (code i at)) ds → Fine target rank at (drafted quiet n (code i at) ++ ds))
+      × (rank_of (drafted quiet n (code i at) ++ ds) ≤ reach_by quiet i rest)
 
-  other_line : (quiet : Bool) (i : MidInst Virtual) (rest at n : ℕ) (ds : List (Drafted RvInstr)) → IsOther i → LineCoded quiet (width i) (code i at) → Fine target (at + length (code i at)) ds → rank_of ds ≤ rest → rest ≤ most_reach
-      → Fine target at (drafted quiet n (code i at) ++ ds) × (rank_of (drafted quiet n (code i at) ++ ds) ≤ reach_by quiet i rest)
-  other_line true i rest at n ds other h fine low few =
-      let a = h.few in
+  other_line : (quiet : Bool) (i : MidInst Virtual) (rest at n : ℕ) (ds : List (Drafted RvInstr)) → IsOther i → LineCoded quiet (width i) (code i at) → rank_of ds ≤ rest → rest ≤ most_reach → Lined quiet i rest at n ds
+  other_line true i rest at n ds other h low few =
       let w = width_few i in
-      let r = coded_rank true n (code i at) ds h.coded in
+      let r = h.fits.low n ds in
       let is = reach_other i rest other in
-      (coded_fine target true n (code i at) at ds h.coded fine (omega (arith, a, w, low, few)), omega (arith, a, r, is, low))
-  other_line false i rest at n ds other h fine low few =
-      let a = h.few in
+      (λ agrees fine. h.fits.fine target rank at n ds agrees fine (omega (arith, w, low, few)), omega (arith, r, is, low))
+  other_line false i rest at n ds other h low few =
       let w = width_few i in
-      let r = act_below n (code i at) ds h.coded (h.acts refl) in
-      (coded_fine target false n (code i at) at ds h.coded fine (omega (arith, a, w, low, few)), omega (arith, a, w, r))
+      let r = h.acts refl n ds in
+      (λ agrees fine. h.fits.fine target rank at n ds agrees fine (omega (arith, w, low, few)), omega (arith, w, r))
 
   -- a branch: silent code, a jump over a jump, and the two jumps
-  branch_line : (test : Virtual) (a b at n : ℕ) (ds : List (Drafted RvInstr)) → IsInner a → IsInner b → Fine target (at + length (code (mid.Branch test a b) at)) ds
-      → Fine target at (drafted true n (code (mid.Branch test a b) at) ++ ds) × (rank_of (drafted true n (code (mid.Branch test a b) at) ++ ds) ≤ 20 + inner_rank)
+  branch_line : (test : Virtual) (a b rest at n : ℕ) (ds : List (Drafted RvInstr)) → IsInner a → IsInner b → Lined true (mid.Branch test a b) rest at n ds
   unfolding piece_of
-  branch_line test a b at n ds inner_a inner_b fine =
+  branch_line test a b rest at n ds inner_a inner_b =
       let is : List RvInstr = get_one key 5 test in
       let start : ℕ = at + length is in
       let high : RvInstr = jump_to (start + 2) (target a) in
       let low : RvInstr = jump_to (start + 1) (target b) in
       let turn : RvInstr = Branch condition.NotEqual 5 0 (pos 2) in
       let tail : List (RvInstr × Tag) = (turn, tag.Silent) ∷ (low, tag.Act) ∷ (high, tag.Act) ∷ [] in
-      let short = gets_short ((5, key test) ∷ []) in
-      let few = short.few in
       let sl = silently_length is in
       let la = length-append (silently is) tail in
       let here : at + length (silently is) ≡ start = ap (λ (k : ℕ). at + k) sl in
       let end : at + length (silently is ++ tail) ≡ start + 1 + 1 + 1 = omega (arith, sl, la) in
       let two : start + 2 ≡ start + 1 + 1 = omega arith in
-      let coded = silently_coded true is short.all in
-      let behind_it : Fine target start (drafted true n tail ++ ds) = (
-        omega arith,
-        refl,
-        (refl, omega arith, omega arith),
-        (
-          omega arith,
-          refl,
-          record { label = b; inner = inner_b; is = refl },
-          (omega arith, refl, record { label = a; inner = inner_a; is = ap (λ (q : ℕ). distance q (target a)) two }, subst (λ (q : ℕ). Fine target q ds) end fine),
-        ),
-      ) in
+      let coded = silently_code true 3 is (gets_short ((5, key test) ∷ [])) in
       let whole : List (Drafted RvInstr) = drafted true n tail ++ ds in
-      let r = coded_rank true n (silently is) whole coded in
+      let r = coded.low n whole in
       let is_both = drafted_both true n (silently is) tail ds in
       let tail_rank : rank_of whole ≡ 1602 = refl in (
-        subst (Fine target at) (sym is_both) (coded_fine target true n (silently is) at whole coded (subst (λ (q : ℕ). Fine target q whole) (sym here) behind_it) (omega (arith, sl, few, tail_rank))),
-        subst (λ (xs : List (Drafted RvInstr)). rank_of xs ≤ 20 + inner_rank) (sym is_both) (omega (arith, r, sl, few, tail_rank)),
+        λ agrees fine.
+            (let behind_it : Fine target rank start whole = (
+              omega arith,
+              refl,
+              (omega arith, omega arith),
+              (
+                omega arith,
+                refl,
+                record { label = b; inner = inner_b; is = refl },
+                (omega arith, refl, record { label = a; inner = inner_a; is = ap (λ (q : ℕ). distance q (target a)) two }, subst (λ (q : ℕ). Fine target rank q ds) end fine),
+              ),
+            ) in
+            subst (Fine target rank at) (sym is_both) (coded.fine target rank at n whole (subst (Agrees rank at) is_both agrees) (subst (λ (q : ℕ). Fine target rank q whole) (sym here) behind_it) (omega (arith, tail_rank)))),
+        subst (λ (xs : List (Drafted RvInstr)). rank_of xs ≤ 20 + inner_rank) (sym is_both) (omega (arith, r, tail_rank)),
       )
 
-  line_by : (t : Tag) (i : MidInst Virtual) (rest at n : ℕ) (ds : List (Drafted RvInstr)) → IsTrue (is_shaped t i) → CalmBy (is_quiet t) i rest → Fine target (at + length (code i at)) ds → rank_of ds ≤ rest → rest ≤ most_reach → LineBy t i rest at n ds
-  line_by t (mid.Branch test a b) rest at n ds shaped calm fine low few =
+  line_by : (t : Tag) (i : MidInst Virtual) (rest at n : ℕ) (ds : List (Drafted RvInstr)) → IsTrue (is_shaped t i) → CalmBy (is_quiet t) i rest → rank_of ds ≤ rest → rest ≤ most_reach → Lined (is_quiet t) i rest at n ds
+  line_by t (mid.Branch test a b) rest at n ds shaped calm low few =
       let silent = branch_silent t test a b shaped in
       let inner : IsInner a × IsInner b = subst (λ (u : Tag). CalmBy (is_quiet u) (mid.Branch test a b) rest) silent calm in
-      subst (λ (u : Tag). LineBy u (mid.Branch test a b) rest at n ds) (sym silent) (branch_line test a b at n ds inner.0 inner.1 fine)
-  line_by t i rest at n ds shaped calm fine low few = other_line (is_quiet t) i rest at n ds tt (inst_coded program expansions expands (is_quiet t) i places at (suits t i rest shaped calm tt)) fine low few
+      subst (λ (u : Tag). Lined (is_quiet u) (mid.Branch test a b) rest at n ds) (sym silent) (branch_line test a b rest at n ds inner.0 inner.1)
+  line_by t i rest at n ds shaped calm low few = other_line (is_quiet t) i rest at n ds tt (inst_coded program expansions expands (is_quiet t) i places at (suits t i rest shaped calm tt)) low few
 
   reach_few : (lines : List (Line Virtual)) → Calm lines → reach lines ≤ most_reach
   reach_few [] h = omega arith
   reach_few (line ∷ lines) h = h.0
 
-  pub drafts_fine : (lines : List (Line Virtual)) (at n : ℕ) → Shaped lines → Calm lines → Fine target at (drafts lines at n) × (rank_of (drafts lines at n) ≤ reach lines)
-  drafts_fine [] at n shaped calm = (tt, omega arith)
+  pub drafts_fine : (lines : List (Line Virtual)) (at n : ℕ) → Shaped lines → Calm lines → (Agrees rank at (drafts lines at n) → Fine target rank at (drafts lines at n)) × (rank_of (drafts lines at n) ≤ reach lines)
+  drafts_fine [] at n shaped calm = (λ agrees. tt, omega arith)
   drafts_fine (line ∷ lines) at n shaped calm =
       let rest = drafts_fine lines (at + size line) (n + 1) shaped.1 calm.2 in
+      let ds : List (Drafted RvInstr) = drafts lines (at + size line) (n + 1) in
+      let mine : List (Drafted RvInstr) = drafted (is_quiet line.tag) n (code line.inst at) in
       let next : at + size line ≡ at + length (code line.inst at) = ap (λ (k : ℕ). at + k) (sym (same_length line.inst at)) in
-      line_by line.tag line.inst (reach lines) at n (drafts lines (at + size line) (n + 1)) shaped.0 calm.1 (subst (λ (q : ℕ). Fine target q (drafts lines (at + size line) (n + 1))) next rest.0) rest.1 (reach_few lines calm.2)
+      let there : at + length mine ≡ at + size line = ap (λ (k : ℕ). at + k) (drafted_length (is_quiet line.tag) n (code line.inst at) ∙ same_length line.inst at) in
+      let own = line_by line.tag line.inst (reach lines) at n ds shaped.0 calm.1 rest.1 (reach_few lines calm.2) in
+      (λ agrees. own.0 agrees (subst (λ (q : ℕ). Fine target rank q ds) next (rest.0 (subst (λ (q : ℕ). Agrees rank q ds) there (agrees_behind rank at mine ds agrees)))), own.1)
 
   -- ---- behind an inner label
   pub record Found (lines : List (Line Virtual)) (at n label : ℕ) : Type 0 where

@@ -1,8 +1,12 @@
+pub mod Kept
 pub mod Falling
+pub mod Poised
 pub mod Ranks
 pub mod Steps
 pub mod Reach
+pub mod Fits
 pub mod Codes
+pub mod Loops
 pub mod Expansions
 pub mod Drafts
 pub mod Pieces

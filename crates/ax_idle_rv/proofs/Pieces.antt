@@ -1,5 +1,5 @@
 -- Selected code is calm: from each line it isn't far to an Act.
-use Rattle.std.proofs.Common.{◌≡◌, ℕ, zero, suc, ◌+◌, ◌-◌, ◌*◌, ◌%◌, ◌≤◌, Bool, true, false, not, ◌||◌, cond, List, [], ◌∷◌, ◌++◌, map, Option, Some, None, length, refl, sym, ap, ◌∙◌, subst, arith, append_assoc, count_by, nat_eq, slice_get}
+use Rattle.std.proofs.Common.{◌≡◌, ℕ, zero, suc, ◌+◌, ◌-◌, ◌*◌, ◌≤◌, Bool, true, false, cond, List, [], ◌∷◌, ◌++◌, map, Option, Some, None, length, refl, sym, ap, ◌∙◌, subst, arith, append_assoc, count_by, nat_eq, slice_get}
 use Rattle.std.specs.List.{list_any}
 use Rattle.std.specs.Prelude.{if◌then◌else◌, nat_lt}
 use Rattle.std.proofs.lemmas.Bool.{or_parts}
@@ -39,7 +39,7 @@ use Rattle.ax_mid.specs.declared.registers.Virtual.{Virtual}
 use Rattle.ax_selected.specs.Addresses.{Brought, Fixed, IndexAt, address_of, bytes_of, count_of, index_at, index_of_base, index_of_step, index_of_value, object_of}
 use Rattle.ax_selected.specs.Edges.{coming_in, edge_lines, operand_from, set_phis}
 use Rattle.ax_selected.specs.Operands.{high_into, is_narrow, low_into}
-use Rattle.ax_selected.specs.Pieces.{Comparison, Straight, apply, bin_lines, comparison, convert_lines, extract_lines, icmp_lines, narrow_bin, narrow_icmp, select_lines, wide_bin, wide_icmp}
+use Rattle.ax_selected.specs.Pieces.{Comparison, Straight, bin_lines, comparison, convert_lines, extract_lines, icmp_lines, narrow_bin, narrow_icmp, select_lines, wide_bin, wide_icmp}
 use Rattle.ax_selected.specs.Registers.{block_label, first_label, high_in, low_in, low_of, high_of, second_label, virtual}
 use Rattle.ax_selected.specs.Selected.{acting, atomic_load_lines, atomic_store_lines, blocks_lines, branch_lines, bytes_at, compared, chosen_by, exchange_lines, fence_lines, found, function_lines, functions_lines, gep_lines, guarded, halves_into, insts_lines, label_line, load_lines, lone, next_half, out_operand, piece, reach as reached, selected, silent, store_lines, straight, through, update_lines}
 use Rattle.ax_idle_rv.proofs.Ranks.{IsInner, inner_rank}

@@ -4,9 +4,10 @@ use Rattle.std.specs.Prelude.{if◌then◌else◌, nat_eq, nat_le, nat_lt}
 use Rattle.std.proofs.Math.Nat.{div-eq_of_lt, mod-eq_of_lt, mul-add-div_right, mul-add-mod_self_right, mul-le-mul_right}
 use Rattle.std.proofs.lemmas.Bool.Decides.{nat_tests}
 use Rattle.std.proofs.lemmas.Option.{none-some, same_Some}
-use Rattle.ax_store.specs.Bytes.{byte_of, covers, number_at}
+use Rattle.ax_map.specs.Map.{covers}
+use Rattle.ax_store.specs.Bytes.{byte_of, number_at}
 use Rattle.ax_store.proofs.Numbers.{number_same, spelled}
-use Rattle.ax_layout.specs.declared.span.Span.{Span}
+use Rattle.ax_layout.specs.declared.address_range.AddressRange.{AddressRange}
 use Rattle.ax_module.specs.declared.module.Module.{Module}
 use Rattle.ax_source_run.specs.SourceRun.{first_numbers}
 use Rattle.ax_agree.specs.Lowers.{byte_in}
@@ -22,7 +23,7 @@ remainder : (i b k : ℕ) → k < b → (i * b + k) % b ≡ k
 remainder i b k less = mul-add-mod_self_right i b k ∙ mod-eq_of_lt less
 
 module _ (m : Module) where
-  pub byte_small : (spans : List Span) (g a : ℕ) → byte_in m g spans a < 2 ^ 8
+  pub byte_small : (spans : List AddressRange) (g a : ℕ) → byte_in m g spans a < 2 ^ 8
   byte_small [] g a = omega arith
   byte_small (s ∷ spans) g a = by (covers s.start (s.count * s.bytes) a) (byte_small spans (g + 1) a)
     where
@@ -31,21 +32,21 @@ module _ (m : Module) where
       by false h = h
 
   -- a byte of the first span that covers it
-  byte_at : (spans : List Span) (d g : ℕ) (s : Span) (a : ℕ) → slice_get spans g ≡ Some s → covers s.start (s.count * s.bytes) a ≡ true → ((h : ℕ) (t : Span) → h < g → slice_get spans h ≡ Some t → covers t.start (t.count * t.bytes) a ≡ false)
+  byte_at : (spans : List AddressRange) (d g : ℕ) (s : AddressRange) (a : ℕ) → slice_get spans g ≡ Some s → covers s.start (s.count * s.bytes) a ≡ true → ((h : ℕ) (t : AddressRange) → h < g → slice_get spans h ≡ Some t → covers t.start (t.count * t.bytes) a ≡ false)
       → byte_in m d spans a ≡ byte_of (first_numbers m (d + g) ((a - s.start) / s.bytes)) ((a - s.start) % s.bytes)
   byte_at [] d g s a e h before = absurd (none-some s e)
   byte_at (t ∷ spans) d zero s a e h before =
       let same = same_Some t s e in
       let at : d ≡ d + 0 = omega arith in
-      ap (λ (b : Bool). if b then byte_of (first_numbers m d ((a - t.start) / t.bytes)) ((a - t.start) % t.bytes) else byte_in m (d + 1) spans a) (ap (λ (x : Span). covers x.start (x.count * x.bytes) a) same ∙ h)
-      ∙ (ap (λ (x : Span). byte_of (first_numbers m d ((a - x.start) / x.bytes)) ((a - x.start) % x.bytes)) same ∙ ap (λ (q : ℕ). byte_of (first_numbers m q ((a - s.start) / s.bytes)) ((a - s.start) % s.bytes)) at)
+      ap (λ (b : Bool). if b then byte_of (first_numbers m d ((a - t.start) / t.bytes)) ((a - t.start) % t.bytes) else byte_in m (d + 1) spans a) (ap (λ (x : AddressRange). covers x.start (x.count * x.bytes) a) same ∙ h)
+      ∙ (ap (λ (x : AddressRange). byte_of (first_numbers m d ((a - x.start) / x.bytes)) ((a - x.start) % x.bytes)) same ∙ ap (λ (q : ℕ). byte_of (first_numbers m q ((a - s.start) / s.bytes)) ((a - s.start) % s.bytes)) at)
   byte_at (t ∷ spans) d (suc g) s a e h before =
       let at : d + 1 + g ≡ d + suc g = omega arith in
       ap (λ (b : Bool). if b then byte_of (first_numbers m d ((a - t.start) / t.bytes)) ((a - t.start) % t.bytes) else byte_in m (d + 1) spans a) (before 0 t (omega arith) refl)
       ∙ (byte_at spans (d + 1) g s a e h (λ k x less there. before (suc k) x (omega (arith, less)) there) ∙ ap (λ (q : ℕ). byte_of (first_numbers m q ((a - s.start) / s.bytes)) ((a - s.start) % s.bytes)) at)
 
   -- an element of a span that no span before overlaps
-  pub element_first : (spans : List Span) (g i : ℕ) (s : Span) → slice_get spans g ≡ Some s → i < s.count → ((h : ℕ) (t : Span) (a : ℕ) → h < g → slice_get spans h ≡ Some t → s.start ≤ a → a < s.start + s.count * s.bytes → covers t.start (t.count * t.bytes) a ≡ false)
+  pub element_first : (spans : List AddressRange) (g i : ℕ) (s : AddressRange) → slice_get spans g ≡ Some s → i < s.count → ((h : ℕ) (t : AddressRange) (a : ℕ) → h < g → slice_get spans h ≡ Some t → s.start ≤ a → a < s.start + s.count * s.bytes → covers t.start (t.count * t.bytes) a ≡ false)
       → number_at (byte_in m 0 spans) (s.start + i * s.bytes) s.bytes ≡ first_numbers m g i % 2 ^ (8 * s.bytes)
   element_first spans g i s e within before =
       let v = first_numbers m g i in
@@ -73,7 +74,7 @@ module _ (m : Module) where
           inside start n a low high = grind (arith, nat_tests)
 
   -- no span reaches so far
-  pub byte_past : (spans : List Span) (d a : ℕ) → ((g : ℕ) (s : Span) → slice_get spans g ≡ Some s → s.start + s.count * s.bytes ≤ a) → byte_in m d spans a ≡ 0
+  pub byte_past : (spans : List AddressRange) (d a : ℕ) → ((g : ℕ) (s : AddressRange) → slice_get spans g ≡ Some s → s.start + s.count * s.bytes ≤ a) → byte_in m d spans a ≡ 0
   byte_past [] d a past = refl
   byte_past (s ∷ spans) d a past =
       let below = past 0 s refl in

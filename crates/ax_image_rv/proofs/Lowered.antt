@@ -12,11 +12,11 @@ use Rattle.ax_words.specs.declared.source.SourceStatus.TheVariants.{Running}
 use Rattle.ax_words.specs.declared.width.Width.{Width}
 use Rattle.ax_tags.specs.declared.tags.Tag.{Tag}
 use Rattle.ax_store.specs.Bytes.{number_at}
-use Rattle.ax_store.specs.Regions.{in_globals, in_lock_table, in_regions}
+use Rattle.ax_map.specs.Map.{covers, frame_base, globals_start, in_globals, in_lock_table, in_regions}
 use Rattle.ax_store.proofs.Numbers.{number_same}
 use Rattle.ax_store.proofs.Regions.{frame_access}
-use Rattle.ax_layout.specs.declared.span.Span.{Span}
-use Rattle.ax_layout.specs.Layout.{CanBeLaidOut, globals_start, is_element_type, next_multiple}
+use Rattle.ax_layout.specs.declared.address_range.AddressRange.{AddressRange}
+use Rattle.ax_layout.specs.Layout.{CanBeLaidOut, is_element_type, next_multiple}
 use Rattle.ax_layout.specs.Regions.{AreThoseOfTheModule, InLayouts}
 use Rattle.ax_layout.proofs.Spans.{reaches}
 use Rattle.ax_module.specs.declared.module.Global.{Global}
@@ -33,7 +33,7 @@ use Rattle.ax_isa.specs.declared.cpu.Status.TheVariants.{Running as Runs}
 use Rattle.ax_isa.specs.declared.images.Image.{Image}
 use Rattle.ax_isa.specs.declared.images.RoutineRange.{RoutineRange}
 use Rattle.ax_isa.specs.Processor.{Processor}
-use Rattle.ax_isa.specs.Run.{Machine, explain, frame_base, machine_start, machine_status, run, setting_of, start_processor, tag_at}
+use Rattle.ax_isa.specs.Run.{Machine, explain, machine_start, machine_status, run, setting_of, start_processor, tag_at}
 use Rattle.ax_isa.specs.Tells.{given_of}
 use Rattle.ax_follow.specs.Contract.{Follows, IsOwn, Lawful, Meaning}
 use Rattle.ax_follow.specs.RunTheorem.{Begins}
@@ -192,27 +192,27 @@ module _ (program : SourceProgram) (expansions : Op → Width → Order → Bool
   }
 
   -- ---- the first bytes
-  abbrev spans : List Span
+  abbrev spans : List AddressRange
   spans = program.layout.spans
 
   lie : Rattle.ax_mid.specs.WellFormed.GlobalsLie program.target (selected program)
   lie = (laws.formed program accepted).globals
 
-  global_at : (g : ℕ) (s : Span) → slice_get spans g ≡ Some s → slice_get (selected program).globals g ≡ Some (mid_global program program.layout g s)
+  global_at : (g : ℕ) (s : AddressRange) → slice_get spans g ≡ Some s → slice_get (selected program).globals g ≡ Some (mid_global program program.layout g s)
   global_at g s there = globals_get program spans 0 g s there ∙ ap (λ (q : ℕ). Some (mid_global program program.layout q s)) (plus g)
     where
       plus : (n : ℕ) → 0 + n ≡ n
       plus n = omega arith
 
-  spans_below : (g : ℕ) (s : Span) → slice_get spans g ≡ Some s → s.start + s.count * s.bytes ≤ 1114112
+  spans_below : (g : ℕ) (s : AddressRange) → slice_get spans g ≡ Some s → s.start + s.count * s.bytes ≤ 1114112
   spans_below g s there = (lie.placed g (mid_global program program.layout g s) (global_at g s there)).below
 
-  not_before : (g : ℕ) (s : Span) → slice_get spans g ≡ Some s → (h : ℕ) (t : Span) (a : ℕ) → h < g → slice_get spans h ≡ Some t → s.start ≤ a → a < s.start + s.count * s.bytes → Rattle.ax_store.specs.Bytes.covers t.start (t.count * t.bytes) a ≡ false
+  not_before : (g : ℕ) (s : AddressRange) → slice_get spans g ≡ Some s → (h : ℕ) (t : AddressRange) (a : ℕ) → h < g → slice_get spans h ≡ Some t → s.start ≤ a → a < s.start + s.count * s.bytes → covers t.start (t.count * t.bytes) a ≡ false
   not_before g s there h t a less other low high =
       let apart = lie.apart h g (mid_global program program.layout h t) (mid_global program program.layout g s) less (global_at h t other) (global_at g s there) in
       past t.start (t.count * t.bytes) a (omega (arith, apart, low))
     where
-      past : (start n a : ℕ) → start + n ≤ a → Rattle.ax_store.specs.Bytes.covers start n a ≡ false
+      past : (start n a : ℕ) → start + n ≤ a → covers start n a ≡ false
       past start n a h = grind (arith, nat_tests)
 
   high_zero : (a : ℕ) → 16777216 ≤ a → first_byte program a ≡ 0
@@ -222,7 +222,7 @@ module _ (program : SourceProgram) (expansions : Op → Width → Order → Bool
   masked_same a less = (let is : is_shared a ≡ true = grind (arith, nat_tests) in ap (λ (t : Bool). if t then first_byte program a else 0) is)
 
   -- a global's number fits its bytes
-  number_fits : (g i : ℕ) (s : Span) → slice_get spans g ≡ Some s → first_numbers program.source g i < 2 ^ (8 * s.bytes)
+  number_fits : (g i : ℕ) (s : AddressRange) → slice_get spans g ≡ Some s → first_numbers program.source g i < 2 ^ (8 * s.bytes)
   number_fits g i s there = by (slice_get program.source.globals g) refl
     where
       typed : first_numbers program.source g i < 2 ^ type_bits (Rattle.ax_typed.specs.Typed.elem_of program.source 0 (Rattle.ax_source_run.specs.SourceState.Shared g))
@@ -239,7 +239,7 @@ module _ (program : SourceProgram) (expansions : Op → Width → Order → Bool
           let elem_is : Rattle.ax_typed.specs.Typed.elem_of program.source 0 (Rattle.ax_source_run.specs.SourceState.Shared g) ≡ v.elem = ap (λ (o : Option Global). (Rattle.ax_source_run.specs.SourcePointers.elements_of_global o).elem) e in
           let those = subst (AreThoseOfTheModule program.source) (sym accepted.layout) (laws.those program.source laid) g v e in
           let s_is : Rattle.ax_layout.specs.Layout.span_in program.layout g ≡ s = index_of_get spans g s Rattle.ax_layout.specs.Layout.nowhere there in
-          let bytes : type_bytes v.elem ≡ s.bytes = sym those.bytes ∙ ap (λ (x : Span). x.bytes) s_is in
+          let bytes : type_bytes v.elem ≡ s.bytes = sym those.bytes ∙ ap (λ (x : AddressRange). x.bytes) s_is in
           let power : 2 ^ type_bits (Rattle.ax_typed.specs.Typed.elem_of program.source 0 (Rattle.ax_source_run.specs.SourceState.Shared g)) ≡ 2 ^ (8 * s.bytes) =
           ap (λ (t : Ty). 2 ^ type_bits t) elem_is ∙ (ap (λ (n : ℕ). 2 ^ n) (bits_fit v.elem element) ∙ ap (λ (n : ℕ). 2 ^ (8 * n)) bytes) in
           subst (λ (n : ℕ). first_numbers program.source g i < n) power typed
@@ -257,7 +257,7 @@ module _ (program : SourceProgram) (expansions : Op → Width → Order → Bool
       ∙ (number_same (masked (first_byte program)) (first_byte program) (s.span.start + i * s.span.bytes) s.span.bytes (λ k less. masked_same (s.span.start + i * s.span.bytes + k) (within_all s.span i k inside_span less below))
       ∙ (element_first program.source spans g i s.span s.there inside_span (not_before g s.span s.there) ∙ mod-eq_of_lt (number_fits g i s.span s.there))))
     where
-      within_all : (s : Span) (i k : ℕ) → i < s.count → k < s.bytes → s.start + s.count * s.bytes ≤ 1114112 → s.start + i * s.bytes + k < 16777216
+      within_all : (s : AddressRange) (i k : ℕ) → i < s.count → k < s.bytes → s.start + s.count * s.bytes ≤ 1114112 → s.start + i * s.bytes + k < 16777216
       within_all s i k less small below = let e = Rattle.std.proofs.Math.Nat.mul-le-mul_right {m = suc i} {n = s.count} s.bytes less in omega (arith, e, small, below)
 
   masked_small : (a : ℕ) → masked (first_byte program) a < 2 ^ 8
@@ -272,7 +272,7 @@ module _ (program : SourceProgram) (expansions : Op → Width → Order → Bool
   globals_inside a low high =
       let up = reaches 16 program.layout.end (omega arith) in
       let here : in_globals (region_end program) a ≡ true = within a (region_end program) low (omega (arith, high, up)) in
-      in_one (in_lock_table a) (in_globals (region_end program) a) (Rattle.ax_store.specs.Regions.in_frames 0 sizes a) here
+      in_one (in_lock_table a) (in_globals (region_end program) a) (Rattle.ax_map.specs.Map.in_frames 0 sizes a) here
     where
       within : (a end : ℕ) → 65536 ≤ a → a < end → in_globals end a ≡ true
       within a end low high = grind (arith, nat_tests)

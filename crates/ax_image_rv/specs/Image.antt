@@ -1,5 +1,5 @@
 -- IMAGES OF SELECTED CODE ON RV64: the code of all lines, one after the other, with frames of one size.
-use Rattle.std.specs.Prelude.{◌≡◌, ℕ, ◌+◌, ◌<◌, ◌≤◌, ◌^◌, Bool, false, true, ◌||◌, if◌then◌else◌, nat_eq, nat_lt, List, [], ◌∷◌, Some, length, map, slice_get, slice_index_or}
+use Rattle.std.specs.Prelude.{◌≡◌, ℕ, ◌+◌, ◌<◌, ◌≤◌, ◌^◌, Bool, true, ◌||◌, if◌then◌else◌, nat_eq, nat_lt, List, [], ◌∷◌, Some, length, map, slice_get, slice_index_or}
 use Rattle.ax_words.specs.declared.mark.Op.{Op}
 use Rattle.ax_words.specs.declared.order.Order.{Order}
 use Rattle.ax_words.specs.declared.width.Width.{Width}
@@ -7,7 +7,8 @@ use Rattle.ax_module.specs.declared.module.Function.{Function}
 use Rattle.ax_source_run.specs.SourceState.{SourceProgram}
 use Rattle.ax_check.specs.Accepted.{IsAccepted}
 use Rattle.ax_isa.specs.declared.images.Image.{Image}
-use Rattle.ax_isa.specs.Run.{Setting, frame_base}
+use Rattle.ax_map.specs.Map.{frame_base, stack_offset}
+use Rattle.ax_isa.specs.Run.{Setting}
 use Rattle.ax_follow.specs.Contract.{Reading}
 use Rattle.ax_agree.specs.Agree.{is_native_entry}
 use Rattle.ax_agree.specs.Library.{library_of}
@@ -42,7 +43,7 @@ room_start p = if is_living p then frame_base p else frame_base 0
 
 -- where the stack pointer points at the start, and stays: the last 8 bytes of that room
 abbrev pub stack_top : ℕ → ℕ
-stack_top p = room_start p + 131064
+stack_top p = room_start p + stack_offset
 
 -- below it 8,208 registers of 8 bytes, and 32,768 bytes for allocas
 abbrev pub frame_depth : ℕ

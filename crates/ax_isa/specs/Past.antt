@@ -2,12 +2,13 @@
 use Rattle.std.specs.Prelude.{ℕ, zero, suc, ◌+◌, ◌/◌, Bool, true, false, ◌&&◌, ◌||◌, not, if◌then◌else◌, nat_eq, List, [], ◌∷◌, Option, Some, None}
 use Rattle.ax_store.specs.declared.entry.Entry.{Entry}
 use Rattle.ax_store.specs.declared.entry.Reservation.{Reservation}
-use Rattle.ax_store.specs.Bytes.{number_at, covers}
+use Rattle.ax_map.specs.Map.{covers}
+use Rattle.ax_store.specs.Bytes.{number_at}
 use Rattle.ax_store.specs.Reservations.{reaches, stands_for}
 use Rattle.ax_store.specs.Storage.{Storage, at_place, load, entered, wrote, with_waiting, linked_at, dropped}
 
 -- so many bytes from an address on
-pub record Span : Type 0 where
+pub record ByteRange : Type 0 where
   pub address : ℕ
   pub bytes : ℕ
 
@@ -25,7 +26,7 @@ pub record Past : Type 0 where
   pub kept : ℕ → Note
   pub next : ℕ → Note
   -- the object that the call in which it is names
-  pub called : ℕ → Option Span
+  pub called : ℕ → Option ByteRange
   -- for each lock word the processor that holds the lock
   pub holder : ℕ → Option ℕ
 
@@ -103,7 +104,7 @@ abbrev pub is_lost : ℕ → ℕ → ℕ → Noted → Bool
 is_lost p a bytes n = stands_for a bytes (n.past.last p) && n.past.lost p
 
 -- a number that is read
-abbrev pub read_note : Span → (ℕ → ℕ) → Note → Note
+abbrev pub read_note : ByteRange → (ℕ → ℕ) → Note → Note
 read_note s f note =
     record {
       read = λ b. covers s.address s.bytes b || note.read b;
@@ -111,7 +112,7 @@ read_note s f note =
       touched = λ b. not (covers s.address s.bytes b) && note.touched b;
     }
 
-abbrev pub note_read : Option Span → (ℕ → ℕ) → Note → Note
+abbrev pub note_read : Option ByteRange → (ℕ → ℕ) → Note → Note
 note_read None f note = note
 note_read (Some s) f note = read_note s f note
 
@@ -125,11 +126,11 @@ any_of f a zero = false
 any_of f a (suc n) = f a || any_of f (a + 1) n
 
 -- p finds that an object has not the number that its operation read before this try, and another's write reached a byte of it since
-abbrev pub finds_other : ℕ → Noted → Span → Bool
+abbrev pub finds_other : ℕ → Noted → ByteRange → Bool
 finds_other p n s =
     all_of (n.past.kept p).read s.address s.bytes && not (nat_eq (load p s.address s.bytes n.storage) (number_at (n.past.kept p).number s.address s.bytes)) && any_of (n.past.kept p).touched s.address s.bytes
 
-abbrev pub found_other : ℕ → Noted → Option Span → Bool
+abbrev pub found_other : ℕ → Noted → Option ByteRange → Bool
 found_other p n None = false
 found_other p n (Some s) = finds_other p n s
 

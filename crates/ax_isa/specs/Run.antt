@@ -6,8 +6,7 @@ use Rattle.ax_words.specs.declared.source.SourceStatus.{SourceStatus}
 use Rattle.ax_words.specs.declared.source.SourceStatus.TheVariants.{Running as Runs, Ended as Ends, Trapped as Traps}
 use Rattle.ax_store.specs.declared.entry.Entry.{Entry}
 use Rattle.ax_store.specs.Storage.{at_place}
-pub use Rattle.ax_store.specs.Regions.{frame_base}
-use Rattle.ax_store.specs.Regions.{in_regions}
+use Rattle.ax_map.specs.Map.{frame_base, in_regions, stack_offset}
 use Rattle.ax_tags.specs.declared.tags.Role.TheVariants.{None as Outside}
 use Rattle.ax_isa.specs.declared.cpu.Status.{Status}
 use Rattle.ax_isa.specs.declared.cpu.Status.TheVariants.{Running, Ended, Trapped, Stuck}
@@ -190,7 +189,7 @@ module _ {I : Type 0} (x : Setting I) where
   since_run (e ∷ es) m since = since_run es (happens e m) (since_next e m since)
 
 abbrev pub start_regs : ℕ → ℕ → ℕ → ℕ
-start_regs stack p r = if nat_eq r stack then frame_base p + 131064 else 0
+start_regs stack p r = if nat_eq r stack then frame_base p + stack_offset else 0
 
 abbrev pub start_with : ℕ → ℕ → ℕ → Status → Processor
 start_with stack p place status = record { regs = start_regs stack p; compared = (0, 0); half = false; place = place; status = status; role = Outside }
@@ -200,7 +199,7 @@ abbrev pub start_processor : ℕ → ℕ → Option ℕ → Processor
 start_processor stack p None = start_with stack p 0 Ended
 start_processor stack p (Some place) = start_with stack p place Running
 
--- the globals lie from 0x10000 to `end`, and hold these bytes
+-- the globals lie up to `end`, and hold these bytes
 abbrev pub start_noted : ℕ → List ℕ → (ℕ → ℕ) → Noted
 start_noted end frames initial = record { storage = record { inside = in_regions end frames; mem = initial; waiting = λ p. []; linked = λ p. None }; past = start_past }
 

@@ -11,7 +11,7 @@ use Rattle.ax_isa.specs.declared.effects.Effect.TheVariants.{Load, Locked, Link,
 use Rattle.ax_isa.specs.declared.effects.Outcome.{Outcome}
 use Rattle.ax_tags.specs.declared.tags.Tag.{Tag}
 use Rattle.ax_tags.specs.declared.tags.Tag.TheVariants.{Silent, Act, Stored, Back, StoredOrMiss, Linked, Call, Free}
-use Rattle.ax_isa.specs.Past.{Span, Note, Past, Noted, nothing_read, is_lost, note_read, found_other, held_by_other}
+use Rattle.ax_isa.specs.Past.{ByteRange, Note, Past, Noted, nothing_read, is_lost, note_read, found_other, held_by_other}
 use Rattle.ax_isa.specs.Processor.{Processor}
 use Rattle.ax_isa.specs.Steps.{Effected, effected, stuck, possible}
 
@@ -86,23 +86,23 @@ gives_nothing A_look = true
 gives_nothing A_miss = false
 
 -- the bytes that an effect reads
-abbrev pub reading : Effect → Option Span
+abbrev pub reading : Effect → Option ByteRange
 reading (Load to a bytes rest ends_half) = Some (record { address = a; bytes = bytes })
 reading (Locked to high a bytes rest change) = Some (record { address = a; bytes = bytes })
 reading (Link to a bytes rest) = Some (record { address = a; bytes = bytes })
 reading (LinkHalf to a) = Some (record { address = a; bytes = 8 })
 reading _ = None
 
-abbrev pub span_size : Option Span → ℕ
-span_size None = 0
-span_size (Some s) = s.bytes
+abbrev pub range_size : Option ByteRange → ℕ
+range_size None = 0
+range_size (Some s) = s.bytes
 
 abbrev pub bytes_of : Effect → ℕ
-bytes_of e = span_size (reading e)
+bytes_of e = range_size (reading e)
 
 -- which object a call names, by the place that it calls and the registers, and the word of an object's lock
 pub record Library : Type 0 where
-  pub object : ℕ → Processor → Option Span
+  pub object : ℕ → Processor → Option ByteRange
   pub word : ℕ → ℕ
   -- is there a lock word at an address
   pub is_word : ℕ → Bool
@@ -120,11 +120,11 @@ role_after tag _ before = before
 abbrev pub with_role : Role → Processor → Processor
 with_role role c = record c { role = role }
 
-abbrev pub call_object : Library → Tag → ℕ → Processor → Option Span → Option Span
+abbrev pub call_object : Library → Tag → ℕ → Processor → Option ByteRange → Option ByteRange
 call_object lib (Call role) place c before = lib.object place c
 call_object lib _ place c before = before
 
-abbrev pub called_after : Library → Tag → Effect → Processor → Option Span → Option Span
+abbrev pub called_after : Library → Tag → Effect → Processor → Option ByteRange → Option ByteRange
 called_after lib tag (CallTo place saved) c before = call_object lib tag place c before
 called_after lib tag (Return back) c before = None
 called_after lib tag _ c before = before
@@ -176,9 +176,9 @@ is_exchange (Update op number) = false
 is_exchange (Exchange expected number compares) = true
 
 -- the locked compare of a loop acts on its object
-abbrev pub exchange_span : Effect → Option Span
-exchange_span (Locked to high a bytes rest change) = if is_exchange change then Some (record { address = a; bytes = bytes }) else None
-exchange_span _ = None
+abbrev pub exchanged_range : Effect → Option ByteRange
+exchanged_range (Locked to high a bytes rest change) = if is_exchange change then Some (record { address = a; bytes = bytes }) else None
+exchanged_range _ = None
 
 abbrev pub is_back : Tag → Bool
 is_back Back = true
@@ -192,9 +192,9 @@ is_finding (Load to a bytes rest ends_half) tag = ends_half
 is_finding (PairStore to a bytes number) tag = is_back tag || is_freeing tag
 is_finding _ tag = is_freeing tag
 
-abbrev pub finding_in : Role → Effect → Tag → Option Span → Option Span
+abbrev pub finding_in : Role → Effect → Tag → Option ByteRange → Option ByteRange
 finding_in Compares e tag called = if is_finding e tag then called else None
-finding_in _ e tag called = exchange_span e
+finding_in _ e tag called = exchanged_range e
 
 -- it finds another number than its operation read before this try
 abbrev pub is_overtaken : Tag → ℕ → Effect → Processor → Noted → Bool
@@ -204,7 +204,7 @@ abbrev pub reads_one : Option ℕ → Bool
 reads_one None = false
 reads_one (Some n) = nat_eq n 1
 
-abbrev pub busy_at : Library → ℕ → Noted → Option Span → Option Span → Option ℕ → Bool
+abbrev pub busy_at : Library → ℕ → Noted → Option ByteRange → Option ByteRange → Option ℕ → Bool
 busy_at lib p n (Some object) (Some s) number = nat_eq s.address (lib.word object.address) && nat_eq s.bytes 4 && reads_one number && held_by_other p s.address n
 busy_at lib p n _ _ number = false
 

@@ -12,18 +12,19 @@ use Rattle.ax_module.specs.Types.{type_bytes}
 use Rattle.ax_target.specs.declared.target.Target.{Target}
 use Rattle.ax_target.specs.Targets.{greatest_native}
 use Rattle.ax_layout.specs.declared.classes.Class.TheVariants.{Native, Locked}
-use Rattle.ax_layout.specs.declared.span.Span.{Span}
+use Rattle.ax_layout.specs.declared.address_range.AddressRange.{AddressRange}
 use Rattle.ax_layout.specs.Classes.{class_of}
-use Rattle.ax_layout.specs.Layout.{next_multiple, CanBeLaidOut, HasElement, IsLaidOut, LayoutState, address_in, alignment_of, bytes_in, count_in, end_after, end_of_span, globals_start, layout_of, nowhere, span_after, span_in, spans_after}
-use Rattle.ax_layout.specs.Regions.{IsNextMultiple, IsGlobalsAlone, IsThatOf, Lies, in_globals, in_lock_table, is_byte_of, is_byte_of_frame}
+use Rattle.ax_map.specs.Map.{globals_start, in_globals, in_lock_table}
+use Rattle.ax_layout.specs.Layout.{next_multiple, CanBeLaidOut, HasElement, IsLaidOut, LayoutState, address_in, alignment_of, bytes_in, count_in, end_after, end_of_span, layout_of, nowhere, span_after, span_in, spans_after}
+use Rattle.ax_layout.specs.Regions.{IsNextMultiple, IsGlobalsAlone, IsThatOf, Lies, is_byte_of, is_byte_of_frame}
 use Rattle.ax_layout.proofs.LockWords.{covered}
 use Rattle.ax_layout.proofs.Spans.{reaches, element_some, ends_behind, grows, starts_behind}
 
-abbrev at : List Global → ℕ → ℕ → Span
+abbrev at : List Global → ℕ → ℕ → AddressRange
 at globals end g = slice_index_or (spans_after end globals) g nowhere
 
 -- a span lies behind what is before it, and ends by the end of all
-record IsInside (end limit : ℕ) (span : Span) : Type 0 where
+record IsInside (end limit : ℕ) (span : AddressRange) : Type 0 where
   first : end ≤ span.start
   last : end_of_span span ≤ limit
   some : 1 ≤ span.bytes
@@ -60,7 +61,7 @@ same_class : (s i j n : ℕ) (target : Target) → class_of (s + i * n) n target
 same_class s i j n target = ap (λ r. if nat_le n (greatest_native target) && nat_eq r 0 then Native else Locked) (same_rest s i j n)
 
 -- a span is that of the module's global
-record IsThat (span : Span) (global : Global) : Type 0 where
+record IsThat (span : AddressRange) (global : Global) : Type 0 where
   count : span.count ≡ global.count
   bytes : span.bytes ≡ type_bytes global.elem
   aligned : (span.start + 0 * span.bytes) % alignment_of global ≡ 0

@@ -1,8 +1,8 @@
 -- Lock words and frames lie apart.
 use Rattle.std.proofs.Common.{◌≡◌, ℕ, ◌+◌, ◌≤◌, ◌<◌, false, IsTrue, arith}
 use Rattle.std.proofs.lemmas.Bool.Decides.{nat_tests}
-use Rattle.ax_layout.specs.Classes.{lock_index_of, lock_word}
-use Rattle.ax_layout.specs.Regions.{covers, in_lock_table, is_byte_of_frame, IsLockAlone}
+use Rattle.ax_map.specs.Map.{covers, in_lock_table, lock_index_of, lock_word}
+use Rattle.ax_layout.specs.Regions.{is_byte_of_frame, IsLockAlone}
 
 pub index_below : (a : ℕ) → lock_index_of a < 256
 index_below a = grind arith

@@ -11,7 +11,7 @@ use Rattle.ax_module.specs.declared.types.Ty.{Ty}
 use Rattle.ax_module.specs.declared.types.Ty.TheVariants.{I1, I8, I16, I32, I64, I128, Int, Float, Double, Ptr, Vector}
 use Rattle.ax_module.specs.Types.{type_bytes}
 use Rattle.ax_layout.specs.Layout.{is_element_type, is_alignment, alignment_of, next_multiple, span_after, spans_after, end_of_span, end_after, IsLaidOut}
-use Rattle.ax_layout.specs.declared.span.Span.{Span}
+use Rattle.ax_layout.specs.declared.address_range.AddressRange.{AddressRange}
 
 -- a multiple of n from a on is there
 pub reaches : (n a : ℕ) → 1 ≤ n → a ≤ next_multiple n a
@@ -81,7 +81,7 @@ module _ (globals : List Global) (k end : ℕ) (global : Global) (h : IsMidst gl
       let l = limit_after in
       omega arith
 
-  pub spans_go_on : (before spans : List Span) → before ++ spans_after end (drop k globals) ≡ spans → before ++ span_after end global ∷ [] ++ spans_after (end_of_span (span_after end global)) (drop (k + 1) globals) ≡ spans
+  pub spans_go_on : (before spans : List AddressRange) → before ++ spans_after end (drop k globals) ≡ spans → before ++ span_after end global ∷ [] ++ spans_after (end_of_span (span_after end global)) (drop (k + 1) globals) ≡ spans
   spans_go_on before spans e =
       append_assoc before (span_after end global ∷ []) (spans_after (end_of_span (span_after end global)) (drop (k + 1) globals))
       ∙ (ap (λ gs. before ++ spans_after end gs) (sym split) ∙ e)

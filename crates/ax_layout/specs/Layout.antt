@@ -2,12 +2,13 @@
 pub use Rattle.ax_layout.specs.LayoutState.{LayoutState, end_of_span}
 use Rattle.std.specs.Prelude.{◌≤◌, ◌<◌, ◌+◌, ◌-◌, ◌*◌, ◌/◌, ℕ, Bool, true, false, IsTrue, List, [], ◌∷◌, Option, Some, None, All, length, nat_eq, slice_index_or, unwrap_or}
 use Rattle.std.specs.List.{list_any}
+use Rattle.ax_map.specs.Map.{globals_limit, globals_start}
 use Rattle.ax_module.specs.declared.module.Global.{Global}
 use Rattle.ax_module.specs.declared.module.Module.{Module}
 use Rattle.ax_module.specs.declared.types.Ty.{Ty}
 use Rattle.ax_module.specs.declared.types.Ty.TheVariants.{I8, I16, I32, I64, I128}
 use Rattle.ax_module.specs.Types.{type_bytes}
-use Rattle.ax_layout.specs.declared.span.Span.{Span}
+use Rattle.ax_layout.specs.declared.address_range.AddressRange.{AddressRange}
 
 -- the types of elements: whole numbers of 8 to 128 bits
 abbrev pub is_element_type : Ty → Bool
@@ -36,11 +37,11 @@ abbrev pub next_multiple : ℕ → ℕ → ℕ
 next_multiple n a = (a + (n - 1)) / n * n
 
 -- where a global lies behind what ends at an address
-abbrev pub span_after : ℕ → Global → Span
+abbrev pub span_after : ℕ → Global → AddressRange
 span_after end global = record { start = next_multiple (alignment_of global) end; bytes = type_bytes global.elem; count = global.count }
 
 -- where globals lie, one after the other
-abbrev pub spans_after : ℕ → List Global → List Span
+abbrev pub spans_after : ℕ → List Global → List AddressRange
 spans_after end [] = []
 spans_after end (global ∷ globals) = span_after end global ∷ spans_after (end_of_span (span_after end global)) globals
 
@@ -48,14 +49,6 @@ spans_after end (global ∷ globals) = span_after end global ∷ spans_after (en
 abbrev pub end_after : ℕ → List Global → ℕ
 end_after end [] = end
 end_after end (global ∷ globals) = end_after (end_of_span (span_after end global)) globals
-
--- 0x10000, where the first global's addresses begin
-abbrev pub globals_start : ℕ
-globals_start = 65536
-
--- 0x110000, which no global passes
-abbrev pub globals_limit : ℕ
-globals_limit = 1114112
 
 abbrev pub layout_of : Module → LayoutState
 layout_of m = record { spans = spans_after globals_start m.globals; end = end_after globals_start m.globals }
@@ -74,10 +67,10 @@ pub record CanBeLaidOut (m : Module) : Type 0 where
   pub end : end_after globals_start m.globals ≤ globals_limit
 
 -- nothing lies past the last global
-abbrev pub nowhere : Span
+abbrev pub nowhere : AddressRange
 nowhere = record { start = 0; bytes = 0; count = 0 }
 
-abbrev pub span_in : LayoutState → ℕ → Span
+abbrev pub span_in : LayoutState → ℕ → AddressRange
 span_in layout g = slice_index_or layout.spans g nowhere
 
 -- the address of element i of global g

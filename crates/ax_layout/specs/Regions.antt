@@ -1,31 +1,20 @@
 -- Where bytes of objects, of lock words and of frames lie.
-use Rattle.std.specs.Prelude.{◌≡◌, ℕ, ◌+◌, ◌*◌, ◌≤◌, ◌<◌, ◌%◌, Bool, false, ◌&&◌, IsTrue, Some, length, nat_le, nat_lt, slice_get}
+use Rattle.std.specs.Prelude.{◌≡◌, ℕ, ◌+◌, ◌≤◌, ◌<◌, ◌%◌, Bool, false, IsTrue, Some, length, slice_get}
 use Rattle.ax_module.specs.declared.module.Global.{Global}
 use Rattle.ax_module.specs.declared.module.Module.{Module}
 use Rattle.ax_module.specs.Types.{type_bytes}
 use Rattle.ax_target.specs.declared.target.Target.{Target}
-use Rattle.ax_layout.specs.Classes.{class_of, lock_word}
-use Rattle.ax_layout.specs.Layout.{CanBeLaidOut, HasElement, LayoutState, address_in, alignment_of, bytes_in, count_in, globals_limit, globals_start, layout_of, next_multiple}
-
--- is b one of the n bytes from a on
-abbrev pub covers : ℕ → ℕ → ℕ → Bool
-covers a n b = nat_le a b && nat_lt b (a + n)
+use Rattle.ax_map.specs.Map.{covers, frame_base, frame_room, globals_limit, globals_start, in_globals, in_lock_table, lock_word}
+use Rattle.ax_layout.specs.Classes.{class_of}
+use Rattle.ax_layout.specs.Layout.{CanBeLaidOut, HasElement, LayoutState, address_in, alignment_of, bytes_in, count_in, layout_of, next_multiple}
 
 -- is b a byte of element i of global g
 abbrev pub is_byte_of : LayoutState → ℕ → ℕ → ℕ → Bool
 is_byte_of layout g i b = covers (address_in layout g i) (bytes_in layout g) b
 
--- from 0x8000 up to but not including 0xC000
-abbrev pub in_lock_table : ℕ → Bool
-in_lock_table a = nat_le 32768 a && nat_lt a 49152
-
--- from 0x10000 to the end of the globals
-abbrev pub in_globals : ℕ → ℕ → Bool
-in_globals end a = nat_le 65536 a && nat_lt a end
-
--- the frame of processor p: the 131,072 bytes from 0x1000000 + 0x20000 * p on
+-- one of the addresses of processor p's frame
 abbrev pub is_byte_of_frame : ℕ → ℕ → Bool
-is_byte_of_frame p a = covers (16777216 + 131072 * p) 131072 a
+is_byte_of_frame p a = covers (frame_base p) frame_room a
 
 -- of each module within its limits and its layout
 abbrev pub InLayouts : (Module → LayoutState → Type 0) → Type 0
@@ -56,7 +45,7 @@ AreApart m layout =
     (g i h j b : ℕ) → HasElement layout g i → HasElement layout h j →
     IsTrue (is_byte_of layout g i b) → IsTrue (is_byte_of layout h j b) → (g ≡ h) × (i ≡ j)
 
--- an element has a byte, and lies from 0x10000 to the end of the globals, which is at most 0x110000
+-- an element has a byte, and lies from where globals start to their end, which is within their limit
 pub record Lies (layout : LayoutState) (g i : ℕ) : Type 0 where
   pub some : 1 ≤ bytes_in layout g
   pub first : globals_start ≤ address_in layout g i

@@ -3,7 +3,8 @@
 ghost use Rattle.std.specs.Prelude.{◌≡◌, IfOk};
 ghost use Rattle.ax_layout.specs.Layout.{CanBeLaidOut, HasElement, address_in, layout_of};
 
-use crate::span::{Span, next_span};
+use crate::address_range::{AddressRange, next_span};
+use ax_map::GLOBALS_START;
 use ax_module::Module;
 use ax_words::Items;
 use std::alloc::{AllocError, Global};
@@ -15,7 +16,7 @@ use std::marker::Model;
 /// alignment, and elements follow one another at their size.
 #[derive(Drop)]
 pub struct Layout {
-    spans: Items<Span>,
+    spans: Items<AddressRange>,
     end: u64,
 }
 
@@ -38,7 +39,7 @@ impl Layout {
         ensures { IfOk result (λ layout. layout ≡ layout_of m.now) }
     {
         let mut spans = Vec::new(alloc);
-        let mut end = 0x10000;
+        let mut end = GLOBALS_START;
         for global in m.globals.as_slice() {
             let span = next_span(end, global);
             spans.push(span)?;

@@ -2,12 +2,12 @@
 //! the others.
 #![tactic(auto)]
 
+pub mod address_range;
 pub mod classes;
 pub mod layout;
 pub mod locks;
 pub mod objects;
 pub mod regions;
-pub mod span;
 
 pub use classes::Class;
 pub use layout::Layout;

@@ -1,7 +1,7 @@
 //! What holds of every layout: objects, lock words and frames lie apart.
 
 ghost use Rattle.std.specs.Prelude.{ℕ, ◌<◌};
-ghost use Rattle.ax_layout.specs.Classes.{lock_index_of};
+ghost use Rattle.ax_map.specs.Map.{lock_index_of};
 ghost use Rattle.ax_layout.specs.Regions.{InLayouts, AllLie, AreApart, AreInTheirRegion, AreOfOneClass, AreThoseOfTheModule, FramesAreApart, LocksAreApart, MultiplesAreNext};
 
 /// A layout has the module's globals, each at the first multiple of its alignment from the end of

@@ -10,7 +10,7 @@ use Rattle.ax_symbols.specs.declared.symbol.Punctuation.TheVariants as mark
 use Rattle.ax_symbols.specs.declared.pass.Pass.TheVariants as pass
 use Rattle.ax_symbols.specs.declared.symbol.Sign.{Sign}
 use Rattle.ax_symbols.specs.declared.symbol.Sign.TheVariants as sign
-use Rattle.ax_symbols.specs.declared.symbol.Span.{Span}
+use Rattle.ax_symbols.specs.declared.symbol.NameSpan.{NameSpan}
 use Rattle.ax_symbols.specs.declared.symbol.Symbol.{Symbol}
 use Rattle.ax_symbols.specs.Pieces.{strip, sign_at}
 use Rattle.ax_symbols.specs.Symbols.{symbol_of, is_feed}
@@ -19,9 +19,9 @@ use Rattle.ax_symbols.proofs.Exact.{strip_splits, lengths, shrinks}
 use Rattle.ax_lines.specs.declared.statement.Statement.{Statement}
 use Rattle.ax_lines.specs.declared.statement.Line.{Line}
 use Rattle.ax_lines.specs.declared.statement.Line.TheVariants as line
-use Rattle.ax_lines.specs.declared.statement.Place.{Place}
-use Rattle.ax_lines.specs.declared.statement.Place.TheVariants as place
-use Rattle.ax_lines.specs.Productions.{states, result_type, global_line, define_line, items_at, items_in, call, valued, unnamed, named, named_call, blank, passed_line, label_line, close_line, outside, is_label, in_block, at_start, between, behind_block, line_at, place_after}
+use Rattle.ax_lines.specs.declared.statement.Section.{Section}
+use Rattle.ax_lines.specs.declared.statement.Section.TheVariants as section
+use Rattle.ax_lines.specs.Productions.{states, result_type, global_line, define_line, items_at, items_in, call, valued, unnamed, named, named_call, blank, passed_line, label_line, close_line, outside, is_label, in_block, at_start, between, behind_block, line_at, section_after}
 use Rattle.ax_lines.specs.Lines.{InPlace, AreLines, lines_of, param_count}
 
 -- ---- what every value of a grammar has
@@ -67,11 +67,11 @@ passed_call : (t : Bool) (x : Line) → NoParams x → NoParams (cond t line.Not
 passed_call true x h = refl
 passed_call false x h = h
 
-call_without : (only : Bool) (r : Option Span) → Without (call only r)
+call_without : (only : Bool) (r : Option NameSpan) → Without (call only r)
 unfolding call
 call_without only r = λ _ _ _ t f _ arguments _ _ _ _. passed_call f.1 _ refl
 
-valued_without : (phis : Bool) (r : Option Span) (a b : Sign) → Without (valued phis r a b)
+valued_without : (phis : Bool) (r : Option NameSpan) (a b : Sign) → Without (valued phis r a b)
 unfolding valued
 valued_without phis r (sign.Word word.Add) b = λ s. refl
 valued_without phis r (sign.Word word.Sub) b = λ s. refl
@@ -193,17 +193,17 @@ define_few l x rest (u1, m1, d1, (u2, m2, d2, (r, m3, d3, (f, m4, d4, (u5, m5, d
 none_few : (x : Line) (l : List Symbol) → NoParams x → param_count x ≤ length l
 none_few x l h = omega (arith, h)
 
-line_few : (p : Place) (l : List Symbol) (x : Line) → IsLine (line_at p) l x → param_count x ≤ length l
+line_few : (p : Section) (l : List Symbol) (x : Line) → IsLine (line_at p) l x → param_count x ≤ length l
 unfolding line_at
-line_few place.Outside l x d =
+line_few section.Outside l x d =
     elim (outside_kind (sign_at l 0) (sign_at l 1)) [
       | inl w ↦ none_few x l (holds (outside (sign_at l 0) (sign_at l 1)) NoParams w l x [] d)
       | inr e ↦ define_few l x [] (subst (λ (g : Grammar Line). Derives g l x []) e d)
     ]
-line_few place.Start l x d = none_few x l (holds (at_start (sign_at l 0) (sign_at l 1)) NoParams (start_without (sign_at l 0) (sign_at l 1)) l x [] d)
-line_few place.Phis l x d = none_few x l (holds (in_block true (sign_at l 0) (sign_at l 1)) NoParams (block_without true (sign_at l 0) (sign_at l 1)) l x [] d)
-line_few place.Inside l x d = none_few x l (holds (in_block false (sign_at l 0) (sign_at l 1)) NoParams (block_without false (sign_at l 0) (sign_at l 1)) l x [] d)
-line_few place.Ended l x d = none_few x l (holds (behind_block (sign_at l 0) (sign_at l 1)) NoParams (behind_without (sign_at l 0) (sign_at l 1)) l x [] d)
+line_few section.Start l x d = none_few x l (holds (at_start (sign_at l 0) (sign_at l 1)) NoParams (start_without (sign_at l 0) (sign_at l 1)) l x [] d)
+line_few section.Phis l x d = none_few x l (holds (in_block true (sign_at l 0) (sign_at l 1)) NoParams (block_without true (sign_at l 0) (sign_at l 1)) l x [] d)
+line_few section.Inside l x d = none_few x l (holds (in_block false (sign_at l 0) (sign_at l 1)) NoParams (block_without false (sign_at l 0) (sign_at l 1)) l x [] d)
+line_few section.Ended l x d = none_few x l (holds (behind_block (sign_at l 0) (sign_at l 1)) NoParams (behind_without (sign_at l 0) (sign_at l 1)) l x [] d)
 
 -- ---- all lines
 
@@ -227,13 +227,13 @@ split_within : (p : Symbol → Bool) (ss : List Symbol) → Within (length ss) (
 split_within p [] = (omega arith, tt)
 split_within p (s ∷ ss) = one_within (p s) (length ss) s (slice_split p ss) (split_within p ss)
 
-in_place_few : (n : ℕ) (p q : Place) (ls : List (List Symbol)) (xs : List Line) → Within n ls → InPlace p ls xs q → All (λ x. param_count x ≤ n) xs
+in_place_few : (n : ℕ) (p q : Section) (ls : List (List Symbol)) (xs : List Line) → Within n ls → InPlace p ls xs q → All (λ x. param_count x ≤ n) xs
 in_place_few n p q [] [] w h = All-nil (λ (x : Line). param_count x ≤ n)
 in_place_few n p q [] (x ∷ xs) w h = absurd h
 in_place_few n p q (l ∷ ls) [] w h = absurd h
-in_place_few n p q (l ∷ ls) (x ∷ xs) w h = All-cons (λ (y : Line). param_count y ≤ n) x xs (omega (arith, line_few p l x h.0, w.0)) (in_place_few n (place_after p x) q ls xs w.1 h.1)
+in_place_few n p q (l ∷ ls) (x ∷ xs) w h = All-cons (λ (y : Line). param_count y ≤ n) x xs (omega (arith, line_few p l x h.0, w.0)) (in_place_few n (section_after p x) q ls xs w.1 h.1)
 
 pub params_few : (text : List ℕ) (ts : List Token) (xs : List Line) → AreLines (lines_of text ts) xs → All (λ x. param_count x ≤ length ts) xs
 params_few text ts xs h =
     let n : length (map (symbol_of text) ts) ≡ length ts = length-map ts (symbol_of text) in
-    in_place_few (length ts) place.Outside place.Outside (lines_of text ts) xs (subst (λ (k : ℕ). Within k (lines_of text ts)) n (split_within is_feed (map (symbol_of text) ts))) h
+    in_place_few (length ts) section.Outside section.Outside (lines_of text ts) xs (subst (λ (k : ℕ). Within k (lines_of text ts)) n (split_within is_feed (map (symbol_of text) ts))) h

@@ -4,12 +4,12 @@ use Rattle.std.specs.Prelude.{not, MatchOption}
 use Rattle.std.specs.List.{slice_split, onto_first, position_or_len}
 use Rattle.ax_symbols.specs.declared.symbol.Symbol.{Symbol}
 use Rattle.ax_lines.specs.declared.statement.Line.{Line}
-use Rattle.ax_lines.specs.declared.statement.Place.{Place}
-use Rattle.ax_lines.specs.declared.statement.Place.TheVariants as place
+use Rattle.ax_lines.specs.declared.statement.Section.{Section}
+use Rattle.ax_lines.specs.declared.statement.Section.TheVariants as section
 use Rattle.std.proofs.lemmas.List.{length-append, length-map, append-nil, length-drop, take_all}
 use Rattle.std.proofs.lemmas.Option.{same_Some}
 use Rattle.ax_symbols.specs.Grammar.{Grammar, IsLine, reads, all_of}
-use Rattle.ax_lines.specs.Productions.{line_at, place_after}
+use Rattle.ax_lines.specs.Productions.{line_at, section_after}
 use Rattle.ax_symbols.specs.Symbols.{is_feed}
 use Rattle.ax_lines.specs.Lines.{InPlace, AreLines, lines_of, IsBadLine, IsSyntax, IsOpcode, is_opcode_fault}
 use Rattle.ax_lines.specs.declared.fault.LineFault.{LineFault}
@@ -81,30 +81,30 @@ line_same g line x y d f = same_Some x y (sym (line_all g line x d) ∙ line_all
 -- ---- the walk
 
 -- what was read, the place behind it, and what is left
-pub record Walked (ls : List (List Symbol)) (xs : List Line) (at : Place) (left : List (List Symbol)) : Type 0 where
+pub record Walked (ls : List (List Symbol)) (xs : List Line) (at : Section) (left : List (List Symbol)) : Type 0 where
   pub read : List (List Symbol)
   pub whole : ls ≡ read ++ left
   pub count : length read ≡ length xs
-  pub so_far : InPlace place.Outside read xs at
+  pub so_far : InPlace section.Outside read xs at
 
-pub walk_starts : (ls : List (List Symbol)) → Walked ls [] place.Outside ls
+pub walk_starts : (ls : List (List Symbol)) → Walked ls [] section.Outside ls
 walk_starts ls = record { read = []; whole = refl; count = refl; so_far = refl }
 
-push_line : (p q : Place) (ls : List (List Symbol)) (xs : List Line) (l : List Symbol) (x : Line) → InPlace p ls xs q → IsLine (line_at q) l x → InPlace p (ls ++ l ∷ []) (xs ++ x ∷ []) (place_after q x)
-push_line p q [] [] l x h d = (subst (λ (r : Place). IsLine (line_at r) l x) (sym h) d, ap (λ (r : Place). place_after r x) h)
+push_line : (p q : Section) (ls : List (List Symbol)) (xs : List Line) (l : List Symbol) (x : Line) → InPlace p ls xs q → IsLine (line_at q) l x → InPlace p (ls ++ l ∷ []) (xs ++ x ∷ []) (section_after q x)
+push_line p q [] [] l x h d = (subst (λ (r : Section). IsLine (line_at r) l x) (sym h) d, ap (λ (r : Section). section_after r x) h)
 push_line p q [] (y ∷ xs) l x h d = absurd h
 push_line p q (m ∷ ls) [] l x h d = absurd h
-push_line p q (m ∷ ls) (y ∷ xs) l x h d = (h.0, push_line (place_after p y) q ls xs l x h.1 d)
+push_line p q (m ∷ ls) (y ∷ xs) l x h d = (h.0, push_line (section_after p y) q ls xs l x h.1 d)
 
-pub walk_goes_on : (ls : List (List Symbol)) (xs : List Line) (at : Place) (left : List (List Symbol)) (l : List Symbol) (more : List (List Symbol)) (x : Line) → Walked ls xs at left → left ≡ l ∷ more → all_of (reads (line_at at) l) ≡ Some x → Walked ls (xs ++ x ∷ []) (place_after at x) more
+pub walk_goes_on : (ls : List (List Symbol)) (xs : List Line) (at : Section) (left : List (List Symbol)) (l : List Symbol) (more : List (List Symbol)) (x : Line) → Walked ls xs at left → left ≡ l ∷ more → all_of (reads (line_at at) l) ≡ Some x → Walked ls (xs ++ x ∷ []) (section_after at x) more
 walk_goes_on ls xs at left l more x w e r = record {
   read = w.read ++ l ∷ [];
   whole = w.whole ∙ ap (λ (y : List (List Symbol)). w.read ++ y) e ∙ sym (append_assoc w.read (l ∷ []) more);
   count = omega (arith, w.count, length-append w.read (l ∷ []), length-append xs (x ∷ []));
-  so_far = push_line place.Outside at w.read xs l x w.so_far (line_found (line_at at) l x r);
+  so_far = push_line section.Outside at w.read xs l x w.so_far (line_found (line_at at) l x r);
 }
 
-walk_bad : (ls : List (List Symbol)) (xs : List Line) (at : Place) (left : List (List Symbol)) (l : List Symbol) (more : List (List Symbol)) (opcode : Bool) → Walked ls xs at left → left ≡ l ∷ more → all_of (reads (line_at at) l) ≡ None → is_opcode_fault at l ≡ opcode → IsBadLine ls (length xs + 1) opcode
+walk_bad : (ls : List (List Symbol)) (xs : List Line) (at : Section) (left : List (List Symbol)) (l : List Symbol) (more : List (List Symbol)) (opcode : Bool) → Walked ls xs at left → left ≡ l ∷ more → all_of (reads (line_at at) l) ≡ None → is_opcode_fault at l ≡ opcode → IsBadLine ls (length xs + 1) opcode
 walk_bad ls xs at left l more opcode w e r k = record {
   before = w.read;
   line = l;
@@ -118,20 +118,20 @@ walk_bad ls xs at left l more opcode w e r k = record {
   kind = k;
 }
 
-pub walk_stops : (ls : List (List Symbol)) (xs : List Line) (at : Place) (left : List (List Symbol)) (l : List Symbol) (more : List (List Symbol)) (fault : LineFault) → Walked ls xs at left → left ≡ l ∷ more → NoLine at l (length xs + 1) fault → IsLineFault ls fault
+pub walk_stops : (ls : List (List Symbol)) (xs : List Line) (at : Section) (left : List (List Symbol)) (l : List Symbol) (more : List (List Symbol)) (fault : LineFault) → Walked ls xs at left → left ≡ l ∷ more → NoLine at l (length xs + 1) fault → IsLineFault ls fault
 walk_stops ls xs at left l more (Syntax n) w e h = subst (IsSyntax ls) (sym h.0) (inl (walk_bad ls xs at left l more false w e h.1 h.2))
 walk_stops ls xs at left l more (Opcode n) w e h = subst (IsOpcode ls) (sym h.0) (walk_bad ls xs at left l more true w e h.1 h.2)
 walk_stops ls xs at left l more Memory w e h = tt
 
-pub walk_ends : (ls : List (List Symbol)) (xs : List Line) (at : Place) → Walked ls xs at [] → InPlace place.Outside ls xs at
-walk_ends ls xs at w = subst (λ (y : List (List Symbol)). InPlace place.Outside y xs at) (sym (w.whole ∙ append-nil w.read)) w.so_far
+pub walk_ends : (ls : List (List Symbol)) (xs : List Line) (at : Section) → Walked ls xs at [] → InPlace section.Outside ls xs at
+walk_ends ls xs at w = subst (λ (y : List (List Symbol)). InPlace section.Outside y xs at) (sym (w.whole ∙ append-nil w.read)) w.so_far
 
-pub walk_open : (ls : List (List Symbol)) (xs : List Line) (at : Place) → Walked ls xs at [] → (at ≡ place.Outside → ⊥) → IsSyntax ls (length xs)
+pub walk_open : (ls : List (List Symbol)) (xs : List Line) (at : Section) → Walked ls xs at [] → (at ≡ section.Outside → ⊥) → IsSyntax ls (length xs)
 walk_open ls xs at w ne = inr (record { stated = xs; at = at; in_place = walk_ends ls xs at w; inside = ne; is = omega (arith, w.count, ap length w.whole, length-append w.read []) })
 
 -- ---- only one walk
 
-same_lines : (p q r : Place) (ls : List (List Symbol)) (xs ys : List Line) → InPlace p ls xs q → InPlace p ls ys r → (xs ≡ ys) × (q ≡ r)
+same_lines : (p q r : Section) (ls : List (List Symbol)) (xs ys : List Line) → InPlace p ls xs q → InPlace p ls ys r → (xs ≡ ys) × (q ≡ r)
 same_lines p q r [] [] [] h k = (refl, sym h ∙ k)
 same_lines p q r [] [] (y ∷ ys) h k = absurd k
 same_lines p q r [] (x ∷ xs) ys h k = absurd h
@@ -139,48 +139,48 @@ same_lines p q r (l ∷ ls) [] ys h k = absurd h
 same_lines p q r (l ∷ ls) (x ∷ xs) [] h k = absurd k
 same_lines p q r (l ∷ ls) (x ∷ xs) (y ∷ ys) h k =
     let e = line_same (line_at p) l x y h.0 k.0 in
-    let m = same_lines (place_after p x) q r ls xs ys h.1 (subst (λ (z : Line). InPlace (place_after p z) ls ys r) (sym e) k.1) in
+    let m = same_lines (section_after p x) q r ls xs ys h.1 (subst (λ (z : Line). InPlace (section_after p z) ls ys r) (sym e) k.1) in
     let f = m.0 in
     (cc, m.1)
 
 -- the part before a line, and the line
-split_lines : (p q : Place) (before : List (List Symbol)) (l : List Symbol) (behind : List (List Symbol)) (xs : List Line) → InPlace p (before ++ l ∷ behind) xs q → (ys : List Line) × (r : Place) × (x : Line) × InPlace p before ys r × IsLine (line_at r) l x
+split_lines : (p q : Section) (before : List (List Symbol)) (l : List Symbol) (behind : List (List Symbol)) (xs : List Line) → InPlace p (before ++ l ∷ behind) xs q → (ys : List Line) × (r : Section) × (x : Line) × InPlace p before ys r × IsLine (line_at r) l x
 split_lines p q [] l behind [] h = absurd h
 split_lines p q [] l behind (x ∷ xs) h = ([], p, x, refl, h.0)
 split_lines p q (m ∷ before) l behind [] h = absurd h
 split_lines p q (m ∷ before) l behind (y ∷ xs) h =
-    let s = split_lines (place_after p y) q before l behind xs h.1 in
+    let s = split_lines (section_after p y) q before l behind xs h.1 in
     (y ∷ s.0, s.1, s.2, (h.0, s.3), s.4)
 
-no_bad_in : (ls : List (List Symbol)) (xs : List Line) (q : Place) (number : ℕ) (opcode : Bool) → InPlace place.Outside ls xs q → IsBadLine ls number opcode → ⊥
+no_bad_in : (ls : List (List Symbol)) (xs : List Line) (q : Section) (number : ℕ) (opcode : Bool) → InPlace section.Outside ls xs q → IsBadLine ls number opcode → ⊥
 no_bad_in ls xs q number opcode h b =
-    let s = split_lines place.Outside q b.before b.line b.behind xs (subst (λ (y : List (List Symbol)). InPlace place.Outside y xs q) b.whole h) in
-    let e = (same_lines place.Outside s.1 b.at b.before s.0 b.stated s.3 b.in_place).1 in
-    b.bad s.2 (subst (λ (r : Place). IsLine (line_at r) b.line s.2) e s.4)
+    let s = split_lines section.Outside q b.before b.line b.behind xs (subst (λ (y : List (List Symbol)). InPlace section.Outside y xs q) b.whole h) in
+    let e = (same_lines section.Outside s.1 b.at b.before s.0 b.stated s.3 b.in_place).1 in
+    b.bad s.2 (subst (λ (r : Section). IsLine (line_at r) b.line s.2) e s.4)
 
 no_bad : (ls : List (List Symbol)) (xs : List Line) (number : ℕ) (opcode : Bool) → AreLines ls xs → IsBadLine ls number opcode → ⊥
-no_bad ls xs number opcode h b = no_bad_in ls xs place.Outside number opcode h b
+no_bad ls xs number opcode h b = no_bad_in ls xs section.Outside number opcode h b
 
 -- lines that are a module have no fault
 pub no_line_fault : (ls : List (List Symbol)) (xs : List Line) (fault : LineFault) → AreLines ls xs → IsLineFault ls fault → fault ≡ Memory
 no_line_fault ls xs (Syntax n) h (inl b) = absurd (no_bad ls xs n false h b)
-no_line_fault ls xs (Syntax n) h (inr o) = absurd (o.inside (same_lines place.Outside o.at place.Outside ls o.stated xs o.in_place h).1)
+no_line_fault ls xs (Syntax n) h (inr o) = absurd (o.inside (same_lines section.Outside o.at section.Outside ls o.stated xs o.in_place h).1)
 no_line_fault ls xs (Opcode n) h b = absurd (no_bad ls xs n true h b)
 no_line_fault ls xs Memory h b = refl
 
 pub lines_faultless : (ls : List (List Symbol)) (xs : List Line) (fault : LineFault) → AreLines ls xs → HaveFault ls fault → ⊥
 lines_faultless ls xs (Syntax n) h (inl b) = no_bad ls xs n false h b
-lines_faultless ls xs (Syntax n) h (inr o) = o.inside (same_lines place.Outside o.at place.Outside ls o.stated xs o.in_place h).1
+lines_faultless ls xs (Syntax n) h (inr o) = o.inside (same_lines section.Outside o.at section.Outside ls o.stated xs o.in_place h).1
 lines_faultless ls xs (Opcode n) h b = no_bad ls xs n true h b
 lines_faultless ls xs Memory h b = b
 
 pub same_all : (ls : List (List Symbol)) (xs ys : List Line) → AreLines ls xs → AreLines ls ys → xs ≡ ys
-same_all ls xs ys h k = (same_lines place.Outside place.Outside place.Outside ls xs ys h k).0
+same_all ls xs ys h k = (same_lines section.Outside section.Outside section.Outside ls xs ys h k).0
 
 -- ---- only one fault
 
 -- two lines that are the first bad one are one
-same_bad : (p q r : Place) (b1 b2 : List (List Symbol)) (l1 l2 : List Symbol) (r1 r2 : List (List Symbol)) (xs ys : List Line) → InPlace p b1 xs q → InPlace p b2 ys r
+same_bad : (p q r : Section) (b1 b2 : List (List Symbol)) (l1 l2 : List Symbol) (r1 r2 : List (List Symbol)) (xs ys : List Line) → InPlace p b1 xs q → InPlace p b2 ys r
     → ((x : Line) → IsLine (line_at q) l1 x → ⊥) → ((x : Line) → IsLine (line_at r) l2 x → ⊥) → b1 ++ l1 ∷ r1 ≡ b2 ++ l2 ∷ r2 → (length b1 ≡ length b2) × (q ≡ r) × (l1 ≡ l2)
 same_bad p q r [] [] l1 l2 r1 r2 [] [] h k n m e = let s : l1 ≡ l2 = cc in (refl, sym h ∙ k, s)
 same_bad p q r [] [] l1 l2 r1 r2 [] (y ∷ ys) h k n m e = absurd k
@@ -188,12 +188,12 @@ same_bad p q r [] [] l1 l2 r1 r2 (x ∷ xs) ys h k n m e = absurd h
 same_bad p q r [] (d ∷ b2) l1 l2 r1 r2 [] [] h k n m e = absurd k
 same_bad p q r [] (d ∷ b2) l1 l2 r1 r2 [] (y ∷ ys) h k n m e =
     let s : d ≡ l1 = cc in
-    absurd (n y (subst (λ (z : Place). IsLine (line_at z) l1 y) h (subst (λ (z : List Symbol). IsLine (line_at p) z y) s k.0)))
+    absurd (n y (subst (λ (z : Section). IsLine (line_at z) l1 y) h (subst (λ (z : List Symbol). IsLine (line_at p) z y) s k.0)))
 same_bad p q r [] (d ∷ b2) l1 l2 r1 r2 (x ∷ xs) ys h k n m e = absurd h
 same_bad p q r (c ∷ b1) [] l1 l2 r1 r2 [] ys h k n m e = absurd h
 same_bad p q r (c ∷ b1) [] l1 l2 r1 r2 (x ∷ xs) [] h k n m e =
     let s : c ≡ l2 = cc in
-    absurd (m x (subst (λ (z : Place). IsLine (line_at z) l2 x) k (subst (λ (z : List Symbol). IsLine (line_at p) z x) s h.0)))
+    absurd (m x (subst (λ (z : Section). IsLine (line_at z) l2 x) k (subst (λ (z : List Symbol). IsLine (line_at p) z x) s h.0)))
 same_bad p q r (c ∷ b1) [] l1 l2 r1 r2 (x ∷ xs) (y ∷ ys) h k n m e = absurd k
 same_bad p q r (c ∷ b1) (d ∷ b2) l1 l2 r1 r2 [] ys h k n m e = absurd h
 same_bad p q r (c ∷ b1) (d ∷ b2) l1 l2 r1 r2 (x ∷ xs) [] h k n m e = absurd k
@@ -201,12 +201,12 @@ same_bad p q r (c ∷ b1) (d ∷ b2) l1 l2 r1 r2 (x ∷ xs) (y ∷ ys) h k n m e
     let s : d ≡ c = cc in
     let t : b1 ++ l1 ∷ r1 ≡ b2 ++ l2 ∷ r2 = cc in
     let f = line_same (line_at p) c x y h.0 (subst (λ (z : List Symbol). IsLine (line_at p) z y) s k.0) in
-    let g = same_bad (place_after p x) q r b1 b2 l1 l2 r1 r2 xs ys h.1 (subst (λ (z : Line). InPlace (place_after p z) b2 ys r) (sym f) k.1) n m t in
+    let g = same_bad (section_after p x) q r b1 b2 l1 l2 r1 r2 xs ys h.1 (subst (λ (z : Line). InPlace (section_after p z) b2 ys r) (sym f) k.1) n m t in
     (ap suc g.0, g.1, g.2)
 
 one_bad : (ls : List (List Symbol)) (n m : ℕ) (o p : Bool) → IsBadLine ls n o → IsBadLine ls m p → (n ≡ m) × (o ≡ p)
 one_bad ls n m o p b c =
-    let s = same_bad place.Outside b.at c.at b.before c.before b.line c.line b.behind c.behind b.stated c.stated b.in_place c.in_place b.bad c.bad (sym b.whole ∙ c.whole) in
+    let s = same_bad section.Outside b.at c.at b.before c.before b.line c.line b.behind c.behind b.stated c.stated b.in_place c.in_place b.bad c.bad (sym b.whole ∙ c.whole) in
     let k : is_opcode_fault b.at b.line ≡ is_opcode_fault c.at c.line = λ i. is_opcode_fault (s.1 i) (s.2 i) in
     (omega (arith, b.is, c.is, s.0), sym b.kind ∙ k ∙ c.kind)
 
@@ -238,17 +238,17 @@ split_few : (p : Symbol → Bool) (ss : List Symbol) → length (slice_split p s
 split_few p [] = omega arith
 split_few p (s ∷ ss) = split_at_few (p s) s (slice_split p ss) (length ss) (split_few p ss)
 
-counted : (p q : Place) (ls : List (List Symbol)) (xs : List Line) → InPlace p ls xs q → length ls ≡ length xs
+counted : (p q : Section) (ls : List (List Symbol)) (xs : List Line) → InPlace p ls xs q → length ls ≡ length xs
 counted p q [] [] h = refl
 counted p q [] (x ∷ xs) h = absurd h
 counted p q (l ∷ ls) [] h = absurd h
-counted p q (l ∷ ls) (x ∷ xs) h = ap suc (counted (place_after p x) q ls xs h.1)
+counted p q (l ∷ ls) (x ∷ xs) h = ap suc (counted (section_after p x) q ls xs h.1)
 
 lines_few : (text : List ℕ) (ts : List Token) → length (lines_of text ts) ≤ length ts + 1
 lines_few text ts = omega (arith, split_few is_feed (map (symbol_of text) ts), length-map {A = Token} {B = Symbol})
 
 pub stated_few : (text : List ℕ) (ts : List Token) (xs : List Line) → AreLines (lines_of text ts) xs → length xs ≤ length ts + 1
-stated_few text ts xs h = omega (arith, counted place.Outside place.Outside (lines_of text ts) xs h, lines_few text ts)
+stated_few text ts xs h = omega (arith, counted section.Outside section.Outside (lines_of text ts) xs h, lines_few text ts)
 
 bad_within : (ls : List (List Symbol)) (n : ℕ) (opcode : Bool) → IsBadLine ls n opcode → n ≤ length ls
 bad_within ls n opcode b = omega (arith, b.is, ap length b.whole, length-append b.before (b.line ∷ b.behind))

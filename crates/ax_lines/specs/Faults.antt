@@ -1,7 +1,7 @@
 -- The faults of lines.
 use Rattle.std.specs.Prelude.{◌≡◌, ◌≤◌, ℕ, true, false, cond, List, Some, None, Result, Ok, Err}
 use Rattle.ax_symbols.specs.declared.symbol.Symbol.{Symbol}
-use Rattle.ax_lines.specs.declared.statement.Place.{Place}
+use Rattle.ax_lines.specs.declared.statement.Section.{Section}
 use Rattle.ax_lines.specs.declared.listing.Stop.{Stop}
 use Rattle.ax_lines.specs.declared.listing.Stop.TheVariants as stop
 use Rattle.ax_lines.specs.declared.fault.LineFault.{LineFault}
@@ -30,18 +30,18 @@ IsOrMemory fault (Opcode line) = Opcode line ≡ fault
 IsOrMemory fault Memory = Unit {0}
 
 -- the fault of a line that is no production at its place
-abbrev pub fault_of : Stop → Place → List Symbol → ℕ → LineFault
+abbrev pub fault_of : Stop → Section → List Symbol → ℕ → LineFault
 fault_of stop.Memory p l number = Memory
 fault_of stop.Bad p l number = cond (is_opcode_fault p l) (Opcode number) (Syntax number)
 
 -- The line of this number is no production at its place, and has this fault.
-abbrev pub NoLine : Place → List Symbol → ℕ → LineFault → Type 0
+abbrev pub NoLine : Section → List Symbol → ℕ → LineFault → Type 0
 NoLine p l number (Syntax n) = (n ≡ number) × (all_of (reads (line_at p) l) ≡ None) × (is_opcode_fault p l ≡ false)
 NoLine p l number (Opcode n) = (n ≡ number) × (all_of (reads (line_at p) l) ≡ None) × (is_opcode_fault p l ≡ true)
 NoLine p l number Memory = Unit {0}
 
 -- what reading the line of this number gives
-abbrev pub LineRead : Place → List Symbol → ℕ → Result Line LineFault → Type 0
+abbrev pub LineRead : Section → List Symbol → ℕ → Result Line LineFault → Type 0
 LineRead p l number (Ok x) = all_of (reads (line_at p) l) ≡ Some x
 LineRead p l number (Err fault) = NoLine p l number fault
 

@@ -10,23 +10,23 @@ use Rattle.ax_symbols.specs.declared.symbol.Sign.TheVariants as sign
 use Rattle.ax_symbols.specs.declared.symbol.Symbol.{Symbol}
 use Rattle.ax_lines.specs.declared.statement.Line.{Line}
 use Rattle.ax_lines.specs.declared.statement.Line.TheVariants as line
-use Rattle.ax_lines.specs.declared.statement.Place.{Place}
-use Rattle.ax_lines.specs.declared.statement.Place.TheVariants as place
+use Rattle.ax_lines.specs.declared.statement.Section.{Section}
+use Rattle.ax_lines.specs.declared.statement.Section.TheVariants as section
 use Rattle.ax_symbols.specs.Pieces.{sign_at}
 use Rattle.ax_symbols.specs.Symbols.{symbol_of, is_feed}
 use Rattle.ax_symbols.specs.Grammar.{IsLine}
-use Rattle.ax_lines.specs.Productions.{line_at, place_after, is_label}
+use Rattle.ax_lines.specs.Productions.{line_at, section_after, is_label}
 
 -- From the first place to the second, each line is a production in its place, and states this.
-abbrev pub InPlace : Place → List (List Symbol) → List Line → Place → Type 0
+abbrev pub InPlace : Section → List (List Symbol) → List Line → Section → Type 0
 InPlace p [] [] q = p ≡ q
 InPlace p [] (x ∷ xs) q = ⊥
 InPlace p (l ∷ ls) [] q = ⊥
-InPlace p (l ∷ ls) (x ∷ xs) q = IsLine (line_at p) l x × InPlace (place_after p x) ls xs q
+InPlace p (l ∷ ls) (x ∷ xs) q = IsLine (line_at p) l x × InPlace (section_after p x) ls xs q
 
 -- the lines of a whole module
 abbrev pub AreLines : List (List Symbol) → List Line → Type 0
-AreLines ls xs = InPlace place.Outside ls xs place.Outside
+AreLines ls xs = InPlace section.Outside ls xs section.Outside
 
 -- the lines of a text that has these tokens
 abbrev pub lines_of : List ℕ → List Token → List (List Symbol)
@@ -103,8 +103,8 @@ is_label_line l = length l == 2 && is_label (sign_at l 0) (sign_at l 1)
 abbrev pub has_unknown_opcode : List Symbol → Bool
 has_unknown_opcode l = not (is_label_line l) && is_unknown_word (sign_at l (opcode_index l))
 
-abbrev pub is_opcode_fault : Place → List Symbol → Bool
-is_opcode_fault place.Outside l = false
+abbrev pub is_opcode_fault : Section → List Symbol → Bool
+is_opcode_fault section.Outside l = false
 is_opcode_fault p l = has_unknown_opcode l
 
 -- The line of this number is the first that is no production in its place, and its fault is an
@@ -116,17 +116,17 @@ pub record IsBadLine (ls : List (List Symbol)) (number : ℕ) (opcode : Bool) : 
   pub whole : ls ≡ before ++ line ∷ behind
   pub is : number ≡ length before + 1
   pub stated : List Line
-  pub at : Place
-  pub in_place : InPlace place.Outside before stated at
+  pub at : Section
+  pub in_place : InPlace section.Outside before stated at
   pub bad : (x : Line) → IsLine (line_at at) line x → ⊥
   pub kind : is_opcode_fault at line ≡ opcode
 
 -- Each line is a production in its place, and the text ends inside a function.
 pub record IsOpenEnd (ls : List (List Symbol)) (number : ℕ) : Type 0 where
   pub stated : List Line
-  pub at : Place
-  pub in_place : InPlace place.Outside ls stated at
-  pub inside : at ≢ place.Outside
+  pub at : Section
+  pub in_place : InPlace section.Outside ls stated at
+  pub inside : at ≢ section.Outside
   pub is : number ≡ length ls
 
 abbrev pub IsSyntax : List (List Symbol) → ℕ → Type 0

@@ -9,7 +9,7 @@ use Rattle.ax_symbols.specs.declared.symbol.Punctuation.{Punctuation}
 use Rattle.ax_symbols.specs.declared.symbol.Punctuation.TheVariants as mark
 use Rattle.ax_symbols.specs.declared.symbol.Sign.{Sign}
 use Rattle.ax_symbols.specs.declared.symbol.Sign.TheVariants as sign
-use Rattle.ax_symbols.specs.declared.symbol.Span.{Span}
+use Rattle.ax_symbols.specs.declared.symbol.NameSpan.{NameSpan}
 use Rattle.ax_symbols.specs.declared.pass.Pass.TheVariants as pass
 use Rattle.ax_symbols.specs.declared.values.Value.{Value}
 use Rattle.ax_symbols.specs.declared.values.Value.TheVariants as value
@@ -22,8 +22,8 @@ use Rattle.ax_lines.specs.declared.statement.Statement.{Statement}
 use Rattle.ax_lines.specs.declared.statement.Statement.TheVariants as statement
 use Rattle.ax_lines.specs.declared.statement.Line.{Line}
 use Rattle.ax_lines.specs.declared.statement.Line.TheVariants as line
-use Rattle.ax_lines.specs.declared.statement.Place.{Place}
-use Rattle.ax_lines.specs.declared.statement.Place.TheVariants as place
+use Rattle.ax_lines.specs.declared.statement.Section.{Section}
+use Rattle.ax_lines.specs.declared.statement.Section.TheVariants as section
 use Rattle.ax_symbols.specs.Pieces.{count_of, local_of, global_of, callee_of, base_of, label_of, const_of, value_of, order_of, pred_of, binary_of, cast_of, rmw_of, part_of, is_label_sign, is_colon}
 use Rattle.ax_symbols.specs.Grammar.{Grammar, gives, signs, one, passed, typed, when, option, by, list, tail, ends, whole, none, ◌>>=◌, ◌>>◌}
 
@@ -188,7 +188,7 @@ global_line = do
   gives (line.Global g e.0 (count_or 1 e.1) (kept vs) a)
 
 -- TYPE [PASS] %p
-unfoldable pub parameter : Grammar (Ty × Span)
+unfoldable pub parameter : Grammar (Ty × NameSpan)
 parameter = do
   t ← typed
   passed pass.Plain
@@ -262,7 +262,7 @@ conversion = do
   gives (statement.Convert c a.0 a.1 t)
 
 -- [ V, %b ]
-unfoldable pub incoming : Grammar (Value × Span)
+unfoldable pub incoming : Grammar (Value × NameSpan)
 incoming = do
   signs (m mark.OpenBracket ∷ [])
   v ← one value_of
@@ -475,16 +475,16 @@ call_argument = option (w word.Ptr ∷ [])
     value_argument
 
 -- A call of a name that begins with `llvm.lifetime.` is passed over.
-abbrev pub call_states : Option Span → Option Ty → Span × Bool → List Argument → Line
+abbrev pub call_states : Option NameSpan → Option Ty → NameSpan × Bool → List Argument → Line
 call_states r t f arguments = cond f.1 line.Nothing (line.Inst r (statement.Call t f.0 arguments))
 
 -- `%r =` before a void call is no production.
-abbrev pub may_have : Option Span → Option Ty → Bool
+abbrev pub may_have : Option NameSpan → Option Ty → Bool
 may_have (Some r) None = false
 may_have _ _ = true
 
 -- [%r =] [tail] call [PASS] RESULT @f(ARGS) TAIL; behind a terminator, only one that is passed over
-unfoldable pub call : Bool → Option Span → Grammar Line
+unfoldable pub call : Bool → Option NameSpan → Grammar Line
 call only r = do
   maybe (w word.Tail ∷ [])
   signs (w word.Call ∷ [])
@@ -502,7 +502,7 @@ call only r = do
 -- ---- lines in functions
 
 -- an instruction that states this
-abbrev pub states : Option Span → Grammar Statement → Grammar Line
+abbrev pub states : Option NameSpan → Grammar Statement → Grammar Line
 states r g = do
   s ← g
   gives (line.Inst r s)
@@ -528,7 +528,7 @@ abbrev pub phi_line : Bool → Grammar Statement
 phi_line phis = cond phis phi none
 
 -- an instruction that can have a result, by its first two words
-unfoldable pub valued : Bool → Option Span → Sign → Sign → Grammar Line
+unfoldable pub valued : Bool → Option NameSpan → Sign → Sign → Grammar Line
 valued phis r (sign.Word word.Add) b = states r binary
 valued phis r (sign.Word word.Sub) b = states r binary
 valued phis r (sign.Word word.Mul) b = states r binary
@@ -564,7 +564,7 @@ unnamed phis (sign.Word word.Unreachable) b = states None unreachable_line
 unnamed phis a b = valued phis None a b
 
 -- %r =
-abbrev pub result_name : Grammar Span
+abbrev pub result_name : Grammar NameSpan
 result_name = do
   r ← one local_of
   signs (m mark.Equals ∷ [])
@@ -650,12 +650,12 @@ between _ = none
 abbrev pub behind_block : Sign → Sign → Grammar Line
 behind_block a b = cond (is_label a b) label_line (between a)
 
-unfoldable pub line_at : Place → Grammar Line
-line_at place.Outside = by outside
-line_at place.Start = by at_start
-line_at place.Phis = by (in_block true)
-line_at place.Inside = by (in_block false)
-line_at place.Ended = by behind_block
+unfoldable pub line_at : Section → Grammar Line
+line_at section.Outside = by outside
+line_at section.Start = by at_start
+line_at section.Phis = by (in_block true)
+line_at section.Inside = by (in_block false)
+line_at section.Ended = by behind_block
 
 -- ---- where the next line stands
 
@@ -671,13 +671,13 @@ unfoldable pub is_phi : Statement → Bool
 is_phi (statement.Phi t vs) = true
 is_phi _ = false
 
-abbrev pub place_behind : Statement → Place
-place_behind s = cond (is_terminator s) place.Ended (cond (is_phi s) place.Phis place.Inside)
+abbrev pub section_behind : Statement → Section
+section_behind s = cond (is_terminator s) section.Ended (cond (is_phi s) section.Phis section.Inside)
 
-unfoldable pub place_after : Place → Line → Place
-place_after p line.Nothing = p
-place_after p (line.Global g t c vs a) = p
-place_after p (line.Define f r ps) = place.Start
-place_after p line.Close = place.Outside
-place_after p (line.Label b) = place.Phis
-place_after p (line.Inst r s) = place_behind s
+unfoldable pub section_after : Section → Line → Section
+section_after p line.Nothing = p
+section_after p (line.Global g t c vs a) = p
+section_after p (line.Define f r ps) = section.Start
+section_after p line.Close = section.Outside
+section_after p (line.Label b) = section.Phis
+section_after p (line.Inst r s) = section_behind s

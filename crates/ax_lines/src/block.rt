@@ -17,12 +17,12 @@ use crate::memory::{
     atomic_load, atomic_store, exchange, fence, modification, plain_load, plain_store,
 };
 use crate::statement::{Line, Statement};
-use ax_symbols::{Punctuation, Sign, Span, Symbol, Word, local, sign_at, strip};
+use ax_symbols::{NameSpan, Punctuation, Sign, Symbol, Word, local, sign_at, strip};
 use std::alloc::Global;
 
 /// The line of an instruction.
 fn stated<'a>(
-    name: Option<Span>,
+    name: Option<NameSpan>,
     read: Option<(Statement, &'a [Symbol])>,
 ) -> Result<(Line, &'a [Symbol]), Stop>
     ensures { Stated name read.entry result }
@@ -75,7 +75,7 @@ fn leave_function(line: &[Symbol], second: Sign) -> Option<(Statement, &[Symbol]
 fn phi_line<'a>(
     alloc: Global,
     phis: bool,
-    name: Option<Span>,
+    name: Option<NameSpan>,
     line: &'a [Symbol],
 ) -> Result<(Line, &'a [Symbol]), Stop>
     ensures { ReadsAs (λ x. (x.0, x.1.now)) result (reads (states name (phi_line phis)) line.now) }
@@ -92,7 +92,7 @@ fn phi_line<'a>(
 fn valued<'a>(
     alloc: Global,
     phis: bool,
-    name: Option<Span>,
+    name: Option<NameSpan>,
     signs: (Sign, Sign),
     line: &'a [Symbol],
 ) -> Result<(Line, &'a [Symbol]), Stop>
@@ -140,7 +140,7 @@ fn unnamed<'a>(
 }
 
 /// `%r =`: the name, and what stands behind.
-pub fn result_name(line: &[Symbol]) -> Option<(Span, &[Symbol])>
+pub fn result_name(line: &[Symbol]) -> Option<(NameSpan, &[Symbol])>
     ensures { Gives (λ x. (x.0, x.1.now)) result (reads result_name line.now) }
 {
     let (name, rest) = local(line)?;

@@ -11,7 +11,8 @@ use crate::operand::{maybe, result_type};
 use crate::statement::{Argument, Line, Statement};
 use ax_module::Ty;
 use ax_symbols::{
-    Pass, Punctuation, Sign, Span, Symbol, Word, callee, pass_over, sign_at, strip, tail, type_at,
+    NameSpan, Pass, Punctuation, Sign, Symbol, Word, callee, pass_over, sign_at, strip, tail,
+    type_at,
 };
 use ax_words::Items;
 use std::alloc::Global;
@@ -37,7 +38,7 @@ fn arguments_in(alloc: Global, line: &[Symbol]) -> Result<(Vec<Argument>, &[Symb
     }
 }
 
-fn may_have(name: Option<Span>, ty: Option<Ty>) -> bool
+fn may_have(name: Option<NameSpan>, ty: Option<Ty>) -> bool
     ensures { result ≡ may_have name ty }
 {
     name.is_none() || ty.is_some()
@@ -45,9 +46,9 @@ fn may_have(name: Option<Span>, ty: Option<Ty>) -> bool
 
 /// What a call states: nothing, where it is passed over.
 fn call_states(
-    name: Option<Span>,
+    name: Option<NameSpan>,
     ty: Option<Ty>,
-    called: (Span, bool),
+    called: (NameSpan, bool),
     arguments: Vec<Argument>,
 ) -> Line
     ensures { result ≡ call_states name ty called arguments.items }
@@ -65,7 +66,7 @@ fn call_states(
 pub fn call<'a>(
     alloc: Global,
     only: bool,
-    name: Option<Span>,
+    name: Option<NameSpan>,
     line: &'a [Symbol],
 ) -> Result<(Line, &'a [Symbol]), Stop>
     ensures { ReadsAs (λ x. (x.0, x.1.now)) result (reads (call only name) line.now) }

@@ -7,7 +7,7 @@ ghost use Rattle.ax_lines.specs.declared.fault.LineFault.TheVariants.{Memory};
 
 use crate::listing::Stop;
 use crate::place::is_label;
-use crate::statement::Place;
+use crate::statement::Section;
 use ax_symbols::{Punctuation, Sign, Symbol, Word, sign_at};
 use std::alloc::{AllocError, AllocFailed};
 use thiserror::Error;
@@ -126,17 +126,17 @@ fn has_unknown_opcode(line: &[Symbol]) -> bool
     !is_label_line(line) && is_unknown_word(sign_at(line, opcode_index(line)))
 }
 
-fn is_opcode_fault(place: Place, line: &[Symbol]) -> bool
+fn is_opcode_fault(place: Section, line: &[Symbol]) -> bool
     ensures { result ≡ is_opcode_fault place line.now }
 {
     match place {
-        Place::Outside => false,
+        Section::Outside => false,
         _ => has_unknown_opcode(line),
     }
 }
 
 /// The fault of a line that is no production at its place.
-pub(crate) fn fault_of(stop: Stop, place: Place, line: &[Symbol], number: usize) -> LineFault
+pub(crate) fn fault_of(stop: Stop, place: Section, line: &[Symbol], number: usize) -> LineFault
     ensures { result ≡ fault_of stop place line.now number }
 {
     match stop {

@@ -11,8 +11,8 @@ use crate::operand::pointer_behind;
 use crate::statement::Argument;
 use ax_module::Ty;
 use ax_symbols::{
-    Pass, Punctuation, Sign, Span, Symbol, Value, Word, constant, local, pass_over, sign_at, strip,
-    type_at, value,
+    NameSpan, Pass, Punctuation, Sign, Symbol, Value, Word, constant, local, pass_over, sign_at,
+    strip, type_at, value,
 };
 use std::alloc::Global;
 
@@ -20,7 +20,7 @@ const COMMA: [Sign; 1] = [Sign::Mark(Punctuation::Comma)];
 
 /// `[ V, %b ]`.
 #[tactic(auto, unfolding(crate::specs::Productions::incoming))]
-fn incoming(line: &[Symbol]) -> Option<((Value, Span), &[Symbol])>
+fn incoming(line: &[Symbol]) -> Option<((Value, NameSpan), &[Symbol])>
     ensures { Gives (λ x. (x.0, x.1.now)) result (reads incoming line.now) }
 {
     let rest = strip(line, &[Sign::Mark(Punctuation::OpenBracket)])?;
@@ -33,7 +33,7 @@ fn incoming(line: &[Symbol]) -> Option<((Value, Span), &[Symbol])>
 
 /// `TYPE [PASS] %p`.
 #[tactic(auto, unfolding(crate::specs::Productions::parameter))]
-fn parameter(line: &[Symbol]) -> Option<((Ty, Span), &[Symbol])>
+fn parameter(line: &[Symbol]) -> Option<((Ty, NameSpan), &[Symbol])>
     ensures { Gives (λ x. (x.0, x.1.now)) result (reads parameter line.now) }
 {
     let (ty, rest) = type_at(line)?;
@@ -125,7 +125,7 @@ fn call_argument(line: &[Symbol]) -> Option<(Argument, &[Symbol])>
 pub fn incomings<'a>(
     alloc: Global,
     line: &'a [Symbol],
-) -> Result<(Vec<(Value, Span)>, &'a [Symbol]), Stop>
+) -> Result<(Vec<(Value, NameSpan)>, &'a [Symbol]), Stop>
     ensures { ReadsAs (λ x. (x.0.items, x.1.now)) result (reads (list incoming) line.now) }
 {
     let mut found = Vec::new(alloc);
@@ -147,7 +147,7 @@ pub fn incomings<'a>(
 pub fn parameters<'a>(
     alloc: Global,
     line: &'a [Symbol],
-) -> Result<(Vec<(Ty, Span)>, &'a [Symbol]), Stop>
+) -> Result<(Vec<(Ty, NameSpan)>, &'a [Symbol]), Stop>
     ensures { ReadsAs (λ x. (x.0.items, x.1.now)) result (reads (list parameter) line.now) }
 {
     let mut found = Vec::new(alloc);

@@ -17,4 +17,4 @@ mod statement;
 
 pub use fault::LineFault;
 pub use lines::read_lines;
-pub use statement::{Argument, Line, Path, Place, Pointer, Statement};
+pub use statement::{Argument, Line, Path, Pointer, Section, Statement};

@@ -10,8 +10,8 @@ ghost use Rattle.ax_lines.specs.declared.statement.Line.{Line};
 ghost use Rattle.ax_lines.specs.declared.fault.LineFault.{LineFault};
 
 use crate::fault::{LineFault, fault_of};
-use crate::place::{line_at, place_after};
-use crate::statement::{Line, Place};
+use crate::place::{line_at, section_after};
+use crate::statement::{Line, Section};
 use ax_lex::Token;
 use ax_symbols::{Symbol, is_feed, symbols_of};
 use std::alloc::Global;
@@ -44,14 +44,19 @@ fn first_line(symbols: &[Symbol]) -> (&[Symbol], Option<&[Symbol]>)
     }
 }
 
-fn is_outside(place: Place) -> bool
-    ensures { MatchBool result (place ≡ Place.Outside) (place ≡ Place.Outside → ⊥) }
+fn is_outside(place: Section) -> bool
+    ensures { MatchBool result (place ≡ Section.Outside) (place ≡ Section.Outside → ⊥) }
 {
-    matches!(place, Place::Outside)
+    matches!(place, Section::Outside)
 }
 
 /// What the line of this number states at its place.
-fn one_line(alloc: Global, place: Place, line: &[Symbol], number: usize) -> Result<Line, LineFault>
+fn one_line(
+    alloc: Global,
+    place: Section,
+    line: &[Symbol],
+    number: usize,
+) -> Result<Line, LineFault>
     ensures { LineRead place line.now number result }
 {
     match line_at(alloc, place, line) {
@@ -66,7 +71,7 @@ fn lines_in(alloc: Global, symbols: &[Symbol]) -> Result<Vec<Line>, LineFault>
     ensures fault { MatchResult result (λ _. Unit {0}) (λ e. IsLineFault (slice_split is_feed symbols.now) e) }
 {
     let mut lines = Vec::new(alloc);
-    let mut place = Place::Outside;
+    let mut place = Section::Outside;
     let mut rest = symbols;
     loop {
         let (front, more) = first_line(rest);
@@ -74,7 +79,7 @@ fn lines_in(alloc: Global, symbols: &[Symbol]) -> Result<Vec<Line>, LineFault>
             Ok(line) => line,
             Err(fault) => return Err(fault),
         };
-        place = place_after(place, &line);
+        place = section_after(place, &line);
         lines.push(line)?;
         let Some(next) = more else {
             if is_outside(place) {

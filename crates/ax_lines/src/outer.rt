@@ -12,7 +12,8 @@ use crate::operand::{alignment, elements, result_type};
 use crate::statement::Line;
 use ax_module::Ty;
 use ax_symbols::{
-    Pass, Punctuation, Sign, Span, Symbol, Value, Word, constant, global, pass_over, sign_at, strip,
+    NameSpan, Pass, Punctuation, Sign, Symbol, Value, Word, constant, global, pass_over, sign_at,
+    strip,
 };
 use ax_words::Items;
 use std::alloc::{AllocError, Global};
@@ -92,7 +93,7 @@ pub fn global_line(alloc: Global, line: &[Symbol]) -> Result<(Line, &[Symbol]), 
 }
 
 /// Parameters, or none before a `)`.
-fn parameters_in(alloc: Global, line: &[Symbol]) -> Result<(Vec<(Ty, Span)>, &[Symbol]), Stop>
+fn parameters_in(alloc: Global, line: &[Symbol]) -> Result<(Vec<(Ty, NameSpan)>, &[Symbol]), Stop>
     ensures { ReadsAs (λ x. (x.0.items, x.1.now)) result (reads (items_in parameter) line.now) }
 {
     match sign_at(line, 0) {

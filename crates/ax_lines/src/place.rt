@@ -3,13 +3,13 @@
 ghost use Rattle.std.specs.Prelude.{◌≡◌};
 ghost use Rattle.ax_lines.specs.Stops.{ReadsAs};
 ghost use Rattle.ax_symbols.specs.Grammar.{reads, all_of};
-ghost use Rattle.ax_lines.specs.Productions.{passed_line, label_line, close_line, outside, is_label, at_start, named_call, between, behind_block, line_at, is_terminator, is_phi, place_behind, place_after};
+ghost use Rattle.ax_lines.specs.Productions.{passed_line, label_line, close_line, outside, is_label, at_start, named_call, between, behind_block, line_at, is_terminator, is_phi, section_behind, section_after};
 
 use crate::block::{blank, in_block, result_name};
 use crate::calls::call;
 use crate::listing::Stop;
 use crate::outer::{define_line, global_line};
-use crate::statement::{Line, Place, Statement};
+use crate::statement::{Line, Section, Statement};
 use ax_symbols::{Punctuation, Sign, Symbol, Word, is_label_sign, label, sign_at, strip};
 use std::alloc::Global;
 
@@ -125,23 +125,23 @@ fn behind_block<'a>(
 #[tactic(auto, unfolding(crate::specs::Productions::line_at))]
 fn front_at<'a>(
     alloc: Global,
-    place: Place,
+    place: Section,
     line: &'a [Symbol],
 ) -> Result<(Line, &'a [Symbol]), Stop>
     ensures { ReadsAs (λ x. (x.0, x.1.now)) result (reads (line_at place) line.now) }
 {
     let signs = (sign_at(line, 0), sign_at(line, 1));
     match place {
-        Place::Outside => outside(alloc, signs, line),
-        Place::Start => at_start(alloc, signs, line),
-        Place::Phis => in_block(alloc, true, signs, line),
-        Place::Inside => in_block(alloc, false, signs, line),
-        Place::Ended => behind_block(alloc, signs, line),
+        Section::Outside => outside(alloc, signs, line),
+        Section::Start => at_start(alloc, signs, line),
+        Section::Phis => in_block(alloc, true, signs, line),
+        Section::Inside => in_block(alloc, false, signs, line),
+        Section::Ended => behind_block(alloc, signs, line),
     }
 }
 
 /// What a whole line states at this place.
-pub fn line_at(alloc: Global, place: Place, line: &[Symbol]) -> Result<Line, Stop>
+pub fn line_at(alloc: Global, place: Section, line: &[Symbol]) -> Result<Line, Stop>
     ensures { ReadsAs (λ x. x) result (all_of (reads (line_at place) line.now)) }
 {
     let (stated, rest) = front_at(alloc, place, line)?;
@@ -172,28 +172,28 @@ fn is_phi(statement: &Statement) -> bool
     matches!(statement, Statement::Phi(..))
 }
 
-fn place_behind(statement: &Statement) -> Place
-    ensures { result ≡ place_behind statement.now }
+fn section_behind(statement: &Statement) -> Section
+    ensures { result ≡ section_behind statement.now }
 {
     if is_terminator(statement) {
-        Place::Ended
+        Section::Ended
     } else if is_phi(statement) {
-        Place::Phis
+        Section::Phis
     } else {
-        Place::Inside
+        Section::Inside
     }
 }
 
 /// Where the line behind this one stands.
-#[tactic(auto, unfolding(crate::specs::Productions::place_after))]
-pub fn place_after(place: Place, line: &Line) -> Place
-    ensures { result ≡ place_after place line.now }
+#[tactic(auto, unfolding(crate::specs::Productions::section_after))]
+pub fn section_after(place: Section, line: &Line) -> Section
+    ensures { result ≡ section_after place line.now }
 {
     match line {
         Line::Nothing | Line::Global(..) => place,
-        Line::Define(..) => Place::Start,
-        Line::Close => Place::Outside,
-        Line::Label(_) => Place::Phis,
-        Line::Inst(_, statement) => place_behind(statement),
+        Line::Define(..) => Section::Start,
+        Line::Close => Section::Outside,
+        Line::Label(_) => Section::Phis,
+        Line::Inst(_, statement) => section_behind(statement),
     }
 }

@@ -1,7 +1,7 @@
 //! What a line states: its instruction or declaration, with names in place of numbers.
 
 use ax_module::{BinOp, Cast, Pred, Ty};
-use ax_symbols::{Base, Span, Value};
+use ax_symbols::{Base, NameSpan, Value};
 use ax_words::{Items, Order, RmwOp};
 
 /// A way from a base to an element: the element type, the array's length (0 where there is no
@@ -36,9 +36,9 @@ pub enum Statement {
     Icmp(Pred, Ty, Value, Value),
     Select(Value, Ty, Value, Ty, Value),
     Convert(Cast, Ty, Value, Ty),
-    Phi(Ty, Items<(Value, Span)>),
-    Jump(Span),
-    Branch(Value, Span, Span),
+    Phi(Ty, Items<(Value, NameSpan)>),
+    Jump(NameSpan),
+    Branch(Value, NameSpan, NameSpan),
     RetVoid,
     Ret(Ty, Value),
     Unreachable,
@@ -52,7 +52,7 @@ pub enum Statement {
     Rmw(RmwOp, Pointer, Ty, Value, Order, Option<u64>),
     Fence(bool, Order),
     Extract(Ty, Value, u8),
-    Call(Option<Ty>, Span, Items<Argument>),
+    Call(Option<Ty>, NameSpan, Items<Argument>),
 }
 
 /// What a line of a module's text states.
@@ -62,18 +62,18 @@ pub enum Line {
     Nothing,
     /// The name, the type and the number of the elements, their constants (none where all are
     /// zero), and the alignment.
-    Global(Span, Ty, u64, Items<Value>, Option<u64>),
+    Global(NameSpan, Ty, u64, Items<Value>, Option<u64>),
     /// The name, the type of the result where there is one, and the parameters.
-    Define(Span, Option<Ty>, Items<(Ty, Span)>),
+    Define(NameSpan, Option<Ty>, Items<(Ty, NameSpan)>),
     Close,
-    Label(Span),
+    Label(NameSpan),
     /// The name of the result, where it has one, and the instruction.
-    Inst(Option<Span>, Statement),
+    Inst(Option<NameSpan>, Statement),
 }
 
 /// Where a line stands.
 #[derive(Clone, Copy)]
-pub enum Place {
+pub enum Section {
     /// Outside functions.
     Outside,
     /// Behind a function's head.

@@ -28,7 +28,7 @@ use Rattle.ax_emit.specs.Atomics.{AllOf, Counted}
 use Rattle.ax_llsc.proofs.Found.{loaded_small, sent_same, sent_small}
 
 -- a store takes the low bits of its number
-cut_again : (a n v : ℕ) → entry_of a n (v % 2 ^ (8 * n)) ≡ entry_of a n v
+pub cut_again : (a n v : ℕ) → entry_of a n (v % 2 ^ (8 * n)) ≡ entry_of a n v
 cut_again a n v = ap (λ u. (let e : Entry = record { address = a; bytes = n; value = u } in e)) (mod-eq_of_lt (mod-lt v (pow_pos (8 * n))))
 
 fits_register : (width : Width) (n : ℕ) → 2 ^ bits_of width ≤ 2 ^ 64 → n < 2 ^ bits_of width → n % 2 ^ 64 ≡ n
@@ -109,7 +109,7 @@ counted doing bits count room h = record { through = through; looks = looks; sma
     small A_miss p a args seen w r fit e = absurd (h.only A_miss p a args seen w r (λ q. cc) e)
 
 -- a result by its numbers
-results_are : (r q : Result Shared) (Q : List ℕ → Type 0) → Q r.results → Some r ≡ Some q → Q q.results
+pub results_are : (r q : Result Shared) (Q : List ℕ → Type 0) → Q r.results → Some r ≡ Some q → Q q.results
 results_are r q Q h e = subst (λ s. Q s.results) (same_Some r q e) h
 
 -- none but a weak compare-exchange has a look or a miss

@@ -20,7 +20,8 @@ use Rattle.ax_expand.specs.Private.{Private}
 use Rattle.ax_expand.proofs.Straight.{goes_append}
 use Rattle.ax_emit_rv.specs.Laws.{is_kept}
 use Rattle.ax_llsc.specs.Rounds.{Leads, no_room}
-use Rattle.ax_llsc.specs.Codes.{IsPrepared, clear, fences, negated, prepare, raw_of}
+use Rattle.ax_llsc.specs.Loops.{clear}
+use Rattle.ax_llsc.specs.Codes.{IsPrepared, fences, negated, prepare, raw_of}
 use Rattle.ax_llsc.proofs.Accesses.{IsRead}
 
 -- no code
@@ -41,7 +42,7 @@ fenced_to sets y Q h = (let a = over_fences sets y in record { private = a.priva
 
 -- ---- upper bits
 -- a word goes up to the top, and comes down again
-cleared_word : (n : ℕ) → n < 2 ^ 32 → shifted_right (shifted_left (extended 4 Signs 0 n) (32 % 64)) (32 % 64) ≡ n
+pub cleared_word : (n : ℕ) → n < 2 ^ 32 → shifted_right (shifted_left (extended 4 Signs 0 n) (32 % 64)) (32 % 64) ≡ n
 cleared_word n h = go (nat_le (2 ^ 31) n)
   where
     go : (t : Bool) → (if t then n + (2 ^ 64 - 2 ^ 32) else n) * 2 ^ 32 % 2 ^ 64 / 2 ^ 32 ≡ n

@@ -6,9 +6,7 @@ use Rattle.ax_words.specs.declared.order.Order.{Order}
 use Rattle.ax_words.specs.declared.width.Width.{Width}
 use Rattle.ax_words.specs.declared.width.Width.TheVariants.{W8, W16, W32, W64}
 use Rattle.ax_words.specs.Width.{bytes_of}
-use Rattle.ax_target.specs.declared.decision.Way.TheVariants.{Inline}
 use Rattle.ax_target.specs.declared.target.Target.TheVariants.{Rv}
-use Rattle.ax_target.specs.Decisions.{decided}
 use Rattle.ax_rv.specs.Instructions.{rv_kind}
 use Rattle.ax_fine.specs.OnBytes.{atomic_doing, load_doing}
 use Rattle.ax_mid.specs.WellFormed.{words_given, words_taken}
@@ -22,10 +20,11 @@ use Rattle.ax_emit.specs.Touches.{IsSize}
 use Rattle.ax_fine.specs.Fine.{Program}
 use Rattle.ax_emit_rv.specs.Code.{Expansion, cleared, first_argument, first_result, homes_from, load_in, store_in}
 use Rattle.ax_emit_rv.specs.Laws.{Accessed, Expanded, every, is_kept}
-use Rattle.ax_llsc.specs.Codes.{Atomic, Inlined, PlainLoad, PlainStore, args_of_op, expansion_of, results_of_op}
-use Rattle.ax_llsc.specs.Laws.{InlineCodeExpands, over_bytes}
+use Rattle.ax_llsc.specs.Codes.{Atomic, Coded, IsCoded, PlainLoad, PlainStore, args_of_op, expansion_of, results_of_op}
+use Rattle.ax_llsc.specs.Laws.{DirectCodeExpands, over_bytes}
 use Rattle.ax_llsc.proofs.Idle.{idle_few}
-use Rattle.ax_llsc.proofs.Inline.{are_counted, words_are}
+use Rattle.ax_llsc.proofs.Coded.{are_counted}
+use Rattle.ax_llsc.proofs.Ways.{words_are}
 
 module _ {R : Type 0} (key : R → ℕ) where
   none : (t : ℕ) (rs : List R) → length rs ≡ 0 → firsts (homes_from key t rs) ≡ []
@@ -36,41 +35,45 @@ module _ {R : Type 0} (key : R → ℕ) where
   one t [] e = absurd (omega (arith, e))
   one t (r ∷ rs) e = ap (λ ns. t ∷ ns) (none (t + 1) rs (omega (arith, e)))
 
+  two : (t : ℕ) (rs : List R) → length rs ≡ 2 → firsts (homes_from key t rs) ≡ t ∷ (t + 1) ∷ []
+  two t [] e = absurd (omega (arith, e))
+  two t (r ∷ rs) e = ap (λ ns. t ∷ ns) (one (t + 1) rs (omega (arith, e)))
+
   args_are : (o : Op) (rs : List R) → length rs ≡ length (args_of_op o) → firsts (homes_from key first_argument rs) ≡ args_of_op o
   args_are op.Load rs e = none first_argument rs e
   args_are op.Store rs e = one first_argument rs e
-  args_are op.Cmpxchg rs e = none first_argument rs e
+  args_are op.Cmpxchg rs e = two first_argument rs e
   args_are (op.Rmw o) rs e = one first_argument rs e
   args_are op.Fence rs e = none first_argument rs e
 
   results_are : (o : Op) (rs : List R) → length rs ≡ length (results_of_op o) → firsts (homes_from key first_result rs) ≡ results_of_op o
   results_are op.Load rs e = one first_result rs e
   results_are op.Store rs e = none first_result rs e
-  results_are op.Cmpxchg rs e = none first_result rs e
+  results_are op.Cmpxchg rs e = two first_result rs e
   results_are (op.Rmw o) rs e = one first_result rs e
   results_are op.Fence rs e = none first_result rs e
 
-few_args : (o : Op) → length (args_of_op o) ≤ 1
+few_args : (o : Op) → length (args_of_op o) ≤ 2
 few_args op.Load = omega arith
 few_args op.Store = omega arith
 few_args op.Cmpxchg = omega arith
 few_args (op.Rmw o) = omega arith
 few_args op.Fence = omega arith
 
-few_results : (o : Op) → length (results_of_op o) ≤ 1
+few_results : (o : Op) → length (results_of_op o) ≤ 2
 few_results op.Load = omega arith
 few_results op.Store = omega arith
 few_results op.Cmpxchg = omega arith
 few_results (op.Rmw o) = omega arith
 few_results op.Fence = omega arith
 
-pub expanded : InlineCodeExpands → {R : Type 0} (m : Program R Shared) (zabha zacas : Bool) (expansions : Op → Width → Order → Bool → Expansion) (most : ℕ) (o : Op) (width : Width) (order : Order) (weak : Bool) (args results : List R) → decided (Rv zabha zacas) o width (bytes_of width) ≡ Inline
-    → expansions o width order weak ≡ expansion_of (Rv zabha zacas) (Atomic o width order weak) → length args ≡ words_taken o width → length results ≡ words_given o width → 28 ≤ most → Expanded (over_bytes zabha zacas m) expansions most o width order weak args results
+pub expanded : DirectCodeExpands → {R : Type 0} (m : Program R Shared) (zabha zacas : Bool) (expansions : Op → Width → Order → Bool → Expansion) (most : ℕ) (o : Op) (width : Width) (order : Order) (weak : Bool) (args results : List R) → IsCoded (Rv zabha zacas) (Atomic o width order weak)
+    → expansions o width order weak ≡ expansion_of (Rv zabha zacas) (Atomic o width order weak) → length args ≡ words_taken o width → length results ≡ words_given o width → 30 ≤ most → Expanded (over_bytes zabha zacas m) expansions most o width order weak args results
 expanded law m zabha zacas expansions most o width order weak args results way is taken given enough =
     let words = words_are zabha zacas o width way in
     let many_args = taken ∙ words.0 in
     let many_results = given ∙ words.1 in
-    let x : Inlined = Atomic o width order weak in
+    let x : Coded = Atomic o width order weak in
     let doing = atomic_doing (Rv zabha zacas) o width order weak in
     let here = law zabha zacas x way in
     let idle = idle_few (Rv zabha zacas) x in
@@ -87,7 +90,7 @@ expanded law m zabha zacas expansions most o width order weak args results way i
     }
 
 -- ---- plain accesses
-module _ (law : InlineCodeExpands) {R : Type 0} (m : Program R Shared) (zabha zacas : Bool) where
+module _ (law : DirectCodeExpands) {R : Type 0} (m : Program R Shared) (zabha zacas : Bool) where
   abbrev shared : Program R Shared
   shared = over_bytes zabha zacas m
 

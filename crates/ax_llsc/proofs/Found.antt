@@ -3,7 +3,8 @@ use Rattle.std.proofs.Common.{◌≡◌, ℕ, ◌-◌, ◌*◌, ◌^◌, ◌<◌
 use Rattle.std.specs.Prelude.{◌&&◌, if◌then◌else◌}
 use Rattle.std.proofs.lemmas.Bool.{cases_eq}
 use Rattle.ax_store.specs.declared.entry.Entry.{Entry}
-use Rattle.ax_store.specs.Bytes.{byte_of, covers, number_at, put}
+use Rattle.ax_map.specs.Map.{covers}
+use Rattle.ax_store.specs.Bytes.{byte_of, number_at, put}
 use Rattle.ax_store.specs.Storage.{at_place, byte_after, newest}
 use Rattle.ax_store.proofs.Numbers.{number_small}
 use Rattle.ax_isa.proofs.Functions.{at_same, at_other}

@@ -1,14 +1,16 @@
--- How many steps of such code are idle at most.
-use Rattle.std.proofs.Common.{ℕ, ◌≤◌, length, length-append, arith}
+-- How long such code is, and how many of its steps are idle at most.
+use Rattle.std.proofs.Common.{◌≡◌, ℕ, ◌+◌, ◌≤◌, Bool, length, length-append, refl, arith}
+use Rattle.ax_words.specs.declared.mark.Op.{Op}
 use Rattle.ax_words.specs.declared.mark.Op.TheVariants as op
 use Rattle.ax_words.specs.declared.operation.RmwOp.{RmwOp}
 use Rattle.ax_words.specs.declared.operation.RmwOp.TheVariants as rmw
 use Rattle.ax_words.specs.declared.order.Order.{Order}
 use Rattle.ax_words.specs.declared.order.Order.TheVariants.{Unordered, Monotonic, Acquire, Release, AcqRel, SeqCst}
 use Rattle.ax_words.specs.declared.width.Width.{Width}
-use Rattle.ax_words.specs.declared.width.Width.TheVariants.{W8, W16, W32, W64, W128}
 use Rattle.ax_target.specs.declared.target.Target.{Target}
-use Rattle.ax_llsc.specs.Codes.{Atomic, Inlined, PlainLoad, PlainStore, before_load, before_store, behind_load, clear, expansion_of, fences, prepare}
+use Rattle.ax_llsc.specs.Loops.{clear}
+use Rattle.ax_llsc.specs.Codes.{Atomic, Coded, PlainLoad, PlainStore, before_load, before_store, behind_load, expansion_of, fences, prepare}
+use Rattle.ax_llsc.proofs.Pairs.{clear_short}
 
 before_load_short : (order : Order) → length (fences (before_load order)) ≤ 1
 before_load_short Unordered = omega arith
@@ -34,13 +36,6 @@ before_store_short Release = omega arith
 before_store_short AcqRel = omega arith
 before_store_short SeqCst = omega arith
 
-clear_short : (r : ℕ) (width : Width) → length (clear r width) ≤ 2
-clear_short r W8 = omega arith
-clear_short r W16 = omega arith
-clear_short r W32 = omega arith
-clear_short r W64 = omega arith
-clear_short r W128 = omega arith
-
 prepare_short : (o : RmwOp) → length (prepare o) ≤ 2
 prepare_short rmw.Xchg = omega arith
 prepare_short rmw.Add = omega arith
@@ -54,7 +49,7 @@ prepare_short rmw.Min = omega arith
 prepare_short rmw.UMax = omega arith
 prepare_short rmw.UMin = omega arith
 
-pub idle_few : (target : Target) (x : Inlined) → (expansion_of target x).most ≤ 4
+pub idle_few : (target : Target) (x : Coded) → (expansion_of target x).most ≤ 6
 idle_few target (Atomic op.Load width order weak) =
     let a = before_load_short order in
     let b = behind_load_short order in
@@ -63,7 +58,44 @@ idle_few target (Atomic op.Load width order weak) =
     omega (arith, a, b, c, d)
 idle_few target (Atomic op.Store width order weak) = (let a = before_store_short order in omega (arith, a))
 idle_few target (Atomic op.Cmpxchg width order weak) = omega arith
-idle_few target (Atomic (op.Rmw o) width order weak) = (let a = prepare_short o in let b = clear_short 15 width in omega (arith, a, b))
+idle_few target (Atomic (op.Rmw o) width order weak) = update_few o
+  where
+    one : (q : RmwOp) → length (prepare q) + length (clear 15 width) ≤ 6
+    one q = (let a = prepare_short q in let b = clear_short 15 width in omega (arith, a, b))
+
+    update_few : (q : RmwOp) → (expansion_of target (Atomic (op.Rmw q) width order weak)).most ≤ 6
+    update_few rmw.Nand = omega arith
+    update_few rmw.Xchg = one rmw.Xchg
+    update_few rmw.Add = one rmw.Add
+    update_few rmw.Sub = one rmw.Sub
+    update_few rmw.And = one rmw.And
+    update_few rmw.Or = one rmw.Or
+    update_few rmw.Xor = one rmw.Xor
+    update_few rmw.Max = one rmw.Max
+    update_few rmw.Min = one rmw.Min
+    update_few rmw.UMax = one rmw.UMax
+    update_few rmw.UMin = one rmw.UMin
 idle_few target (Atomic op.Fence width order weak) = omega arith
 idle_few target (PlainLoad width) = (let a = clear_short 7 width in omega (arith, a))
 idle_few target (PlainStore width) = omega arith
+
+-- wherever it stands
+abbrev IsSteady : Target → Op → Width → Order → Bool → ℕ → Type 0
+IsSteady target o width order weak start = (let e = expansion_of target (Atomic o width order weak) in length (e.piece start) ≡ length (e.piece 0))
+
+pub steady : (target : Target) (o : Op) (width : Width) (order : Order) (weak : Bool) (start : ℕ) → IsSteady target o width order weak start
+steady target op.Load width order weak start = refl
+steady target op.Store width order weak start = refl
+steady target op.Cmpxchg width order weak start = refl
+steady target op.Fence width order weak start = refl
+steady target (op.Rmw rmw.Xchg) width order weak start = refl
+steady target (op.Rmw rmw.Add) width order weak start = refl
+steady target (op.Rmw rmw.Sub) width order weak start = refl
+steady target (op.Rmw rmw.And) width order weak start = refl
+steady target (op.Rmw rmw.Nand) width order weak start = refl
+steady target (op.Rmw rmw.Or) width order weak start = refl
+steady target (op.Rmw rmw.Xor) width order weak start = refl
+steady target (op.Rmw rmw.Max) width order weak start = refl
+steady target (op.Rmw rmw.Min) width order weak start = refl
+steady target (op.Rmw rmw.UMax) width order weak start = refl
+steady target (op.Rmw rmw.UMin) width order weak start = refl

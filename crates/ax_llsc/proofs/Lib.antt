@@ -3,7 +3,13 @@ pub mod Found
 pub mod Accesses
 pub mod Around
 pub mod Acts
+pub mod Ways
 pub mod Inline
+pub mod Pairs
+pub mod Exchanging
+pub mod Exchange
+pub mod Nand
+pub mod Coded
 pub mod Rows
 pub mod Idle
 pub mod Emitted

@@ -1,5 +1,5 @@
 -- The skeleton of each code is its row.
-use Rattle.std.proofs.Common.{◌≡◌, ℕ, Bool, true, false, List, [], ◌∷◌, map, refl, sym, ap}
+use Rattle.std.proofs.Common.{◌≡◌, ℕ, Bool, true, false, List, [], ◌∷◌, map, refl, sym, ap, subst, ⊎_elim}
 use Rattle.std.proofs.lemmas.Bool.{false≢true}
 use Rattle.ax_words.specs.declared.mark.Mark.{Mark}
 use Rattle.ax_words.specs.declared.mark.Mark.TheVariants.{Memory}
@@ -14,23 +14,27 @@ use Rattle.ax_words.specs.declared.width.Width.{Width}
 use Rattle.ax_words.specs.declared.width.Width.TheVariants.{W8, W16, W32, W64, W128}
 use Rattle.ax_words.specs.Orders.{is_legal}
 use Rattle.ax_words.specs.Width.{bytes_of}
-use Rattle.ax_target.specs.declared.decision.Way.TheVariants.{Inline}
 use Rattle.ax_target.specs.declared.target.Target.TheVariants.{Rv}
 use Rattle.ax_target.specs.Decisions.{decided}
 use Rattle.ax_target.specs.Endings.{endings, with_ending}
 use Rattle.ax_target.specs.Rows.{access_of, row_of}
-use Rattle.ax_target.specs.RvRows.{rv_rmw}
+use Rattle.ax_target.specs.RvRows.{rv_pair, rv_rmw}
 use Rattle.ax_mid.specs.Machine.{is_wide}
 use Rattle.ax_rv.specs.Instructions.{is_frame_register}
-use Rattle.ax_rv.specs.Skeleton.{amo_code, ended, skeleton}
-use Rattle.ax_llsc.specs.Codes.{Atomic, amo_of, ending_of, expansion_of}
-use Rattle.ax_llsc.proofs.Inline.{HasAmo, amo_way, exchange_way, load_way, store_way}
+use Rattle.ax_rv.specs.Skeleton.{amo_code, ended, load_code, skeleton, store_code}
+use Rattle.ax_llsc.specs.Loops.{link_ending, store_ending}
+use Rattle.ax_llsc.specs.Codes.{Atomic, IsCoded, amo_of, ending_of, expansion_of}
+use Rattle.ax_llsc.proofs.Ways.{HasAmo, IsAtomicWidth, amo_or_nand, exchange_way, load_way, store_way, update_way}
 
 -- the instructions of some code
 abbrev marks : (zabha zacas : Bool) → Op → Width → Order → Bool → ℕ → List Mark
 marks zabha zacas o width order weak start = skeleton is_frame_register (map (λ i. i.0) ((expansion_of (Rv zabha zacas) (Atomic o width order weak)).piece start))
 
-load_row : (zabha zacas : Bool) (width : Width) (order : Order) (weak : Bool) (start : ℕ) → is_wide width ≡ false → is_legal (access_of op.Load) order ≡ true → marks zabha zacas op.Load width order weak start ≡ row_of (Rv zabha zacas) op.Load order width Inline
+-- they are the row of its way
+abbrev IsRow : (zabha zacas : Bool) → Op → Width → Order → Bool → ℕ → Type 0
+IsRow zabha zacas o width order weak start = marks zabha zacas o width order weak start ≡ row_of (Rv zabha zacas) o order width (decided (Rv zabha zacas) o width (bytes_of width))
+
+load_row : (zabha zacas : Bool) (width : Width) (order : Order) (weak : Bool) (start : ℕ) → is_wide width ≡ false → is_legal (access_of op.Load) order ≡ true → IsRow zabha zacas op.Load width order weak start
 load_row zabha zacas W8 Unordered weak start n legal = refl
 load_row zabha zacas W8 Monotonic weak start n legal = refl
 load_row zabha zacas W8 Acquire weak start n legal = refl
@@ -57,7 +61,7 @@ load_row zabha zacas W64 AcqRel weak start n legal = absurd (false≢true legal)
 load_row zabha zacas W64 SeqCst weak start n legal = refl
 load_row zabha zacas W128 order weak start n legal = absurd (false≢true (sym n))
 
-store_row : (zabha zacas : Bool) (width : Width) (order : Order) (weak : Bool) (start : ℕ) → is_wide width ≡ false → is_legal (access_of op.Store) order ≡ true → marks zabha zacas op.Store width order weak start ≡ row_of (Rv zabha zacas) op.Store order width Inline
+store_row : (zabha zacas : Bool) (width : Width) (order : Order) (weak : Bool) (start : ℕ) → is_wide width ≡ false → is_legal (access_of op.Store) order ≡ true → IsRow zabha zacas op.Store width order weak start
 store_row zabha zacas W8 Unordered weak start n legal = refl
 store_row zabha zacas W8 Monotonic weak start n legal = refl
 store_row zabha zacas W8 Acquire weak start n legal = absurd (false≢true legal)
@@ -84,7 +88,7 @@ store_row zabha zacas W64 AcqRel weak start n legal = absurd (false≢true legal
 store_row zabha zacas W64 SeqCst weak start n legal = refl
 store_row zabha zacas W128 order weak start n legal = absurd (false≢true (sym n))
 
-fence_row : (zabha zacas : Bool) (width : Width) (order : Order) (weak : Bool) (start : ℕ) → marks zabha zacas op.Fence width order weak start ≡ row_of (Rv zabha zacas) op.Fence order width Inline
+fence_row : (zabha zacas : Bool) (width : Width) (order : Order) (weak : Bool) (start : ℕ) → IsRow zabha zacas op.Fence width order weak start
 fence_row zabha zacas width Unordered weak start = refl
 fence_row zabha zacas width Monotonic weak start = refl
 fence_row zabha zacas width Acquire weak start = refl
@@ -101,7 +105,7 @@ ending_row Release plain acquire release both = refl
 ending_row AcqRel plain acquire release both = refl
 ending_row SeqCst plain acquire release both = refl
 
-amo_row : (o : RmwOp) (order : Order) (n : ℕ) → HasAmo o W64 → Memory (amo_code (amo_of o) (ending_of order)) n ∷ [] ≡ rv_rmw o order n
+amo_row : (o : RmwOp) (order : Order) (n : ℕ) → HasAmo o → Memory (amo_code (amo_of o) (ending_of order)) n ∷ [] ≡ rv_rmw o order n
 amo_row rmw.Nand order n has = absurd has
 amo_row rmw.Xchg order n has = ap (λ m. Memory m n ∷ []) (ending_row order _ _ _ _)
 amo_row rmw.Add order n has = ap (λ m. Memory m n ∷ []) (ending_row order _ _ _ _)
@@ -114,62 +118,62 @@ amo_row rmw.Min order n has = ap (λ m. Memory m n ∷ []) (ending_row order _ _
 amo_row rmw.UMax order n has = ap (λ m. Memory m n ∷ []) (ending_row order _ _ _ _)
 amo_row rmw.UMin order n has = ap (λ m. Memory m n ∷ []) (ending_row order _ _ _ _)
 
-update_row : (zabha zacas : Bool) (o : RmwOp) (width : Width) (order : Order) (weak : Bool) (start : ℕ) → HasAmo o width → marks zabha zacas (op.Rmw o) width order weak start ≡ row_of (Rv zabha zacas) (op.Rmw o) order width Inline
-update_row zabha zacas rmw.Nand width order weak start has = absurd has
-update_row zabha zacas rmw.Xchg W32 order weak start has = amo_row rmw.Xchg order 4 tt
-update_row zabha zacas rmw.Xchg W64 order weak start has = amo_row rmw.Xchg order 8 tt
-update_row zabha zacas rmw.Xchg W8 order weak start has = absurd has
-update_row zabha zacas rmw.Xchg W16 order weak start has = absurd has
-update_row zabha zacas rmw.Xchg W128 order weak start has = absurd has
-update_row zabha zacas rmw.Add W32 order weak start has = amo_row rmw.Add order 4 tt
-update_row zabha zacas rmw.Add W64 order weak start has = amo_row rmw.Add order 8 tt
-update_row zabha zacas rmw.Add W8 order weak start has = absurd has
-update_row zabha zacas rmw.Add W16 order weak start has = absurd has
-update_row zabha zacas rmw.Add W128 order weak start has = absurd has
-update_row zabha zacas rmw.Sub W32 order weak start has = amo_row rmw.Sub order 4 tt
-update_row zabha zacas rmw.Sub W64 order weak start has = amo_row rmw.Sub order 8 tt
-update_row zabha zacas rmw.Sub W8 order weak start has = absurd has
-update_row zabha zacas rmw.Sub W16 order weak start has = absurd has
-update_row zabha zacas rmw.Sub W128 order weak start has = absurd has
-update_row zabha zacas rmw.And W32 order weak start has = amo_row rmw.And order 4 tt
-update_row zabha zacas rmw.And W64 order weak start has = amo_row rmw.And order 8 tt
-update_row zabha zacas rmw.And W8 order weak start has = absurd has
-update_row zabha zacas rmw.And W16 order weak start has = absurd has
-update_row zabha zacas rmw.And W128 order weak start has = absurd has
-update_row zabha zacas rmw.Or W32 order weak start has = amo_row rmw.Or order 4 tt
-update_row zabha zacas rmw.Or W64 order weak start has = amo_row rmw.Or order 8 tt
-update_row zabha zacas rmw.Or W8 order weak start has = absurd has
-update_row zabha zacas rmw.Or W16 order weak start has = absurd has
-update_row zabha zacas rmw.Or W128 order weak start has = absurd has
-update_row zabha zacas rmw.Xor W32 order weak start has = amo_row rmw.Xor order 4 tt
-update_row zabha zacas rmw.Xor W64 order weak start has = amo_row rmw.Xor order 8 tt
-update_row zabha zacas rmw.Xor W8 order weak start has = absurd has
-update_row zabha zacas rmw.Xor W16 order weak start has = absurd has
-update_row zabha zacas rmw.Xor W128 order weak start has = absurd has
-update_row zabha zacas rmw.Max W32 order weak start has = amo_row rmw.Max order 4 tt
-update_row zabha zacas rmw.Max W64 order weak start has = amo_row rmw.Max order 8 tt
-update_row zabha zacas rmw.Max W8 order weak start has = absurd has
-update_row zabha zacas rmw.Max W16 order weak start has = absurd has
-update_row zabha zacas rmw.Max W128 order weak start has = absurd has
-update_row zabha zacas rmw.Min W32 order weak start has = amo_row rmw.Min order 4 tt
-update_row zabha zacas rmw.Min W64 order weak start has = amo_row rmw.Min order 8 tt
-update_row zabha zacas rmw.Min W8 order weak start has = absurd has
-update_row zabha zacas rmw.Min W16 order weak start has = absurd has
-update_row zabha zacas rmw.Min W128 order weak start has = absurd has
-update_row zabha zacas rmw.UMax W32 order weak start has = amo_row rmw.UMax order 4 tt
-update_row zabha zacas rmw.UMax W64 order weak start has = amo_row rmw.UMax order 8 tt
-update_row zabha zacas rmw.UMax W8 order weak start has = absurd has
-update_row zabha zacas rmw.UMax W16 order weak start has = absurd has
-update_row zabha zacas rmw.UMax W128 order weak start has = absurd has
-update_row zabha zacas rmw.UMin W32 order weak start has = amo_row rmw.UMin order 4 tt
-update_row zabha zacas rmw.UMin W64 order weak start has = amo_row rmw.UMin order 8 tt
-update_row zabha zacas rmw.UMin W8 order weak start has = absurd has
-update_row zabha zacas rmw.UMin W16 order weak start has = absurd has
-update_row zabha zacas rmw.UMin W128 order weak start has = absurd has
+update_row : (zabha zacas : Bool) (o : RmwOp) (width : Width) (order : Order) (weak : Bool) (start : ℕ) → HasAmo o → IsAtomicWidth width → IsRow zabha zacas (op.Rmw o) width order weak start
+update_row zabha zacas o W8 order weak start has size = absurd size
+update_row zabha zacas o W16 order weak start has size = absurd size
+update_row zabha zacas o W128 order weak start has size = absurd size
+update_row zabha zacas rmw.Nand width order weak start has size = absurd has
+update_row zabha zacas rmw.Xchg W32 order weak start has size = amo_row rmw.Xchg order 4 tt
+update_row zabha zacas rmw.Xchg W64 order weak start has size = amo_row rmw.Xchg order 8 tt
+update_row zabha zacas rmw.Add W32 order weak start has size = amo_row rmw.Add order 4 tt
+update_row zabha zacas rmw.Add W64 order weak start has size = amo_row rmw.Add order 8 tt
+update_row zabha zacas rmw.Sub W32 order weak start has size = amo_row rmw.Sub order 4 tt
+update_row zabha zacas rmw.Sub W64 order weak start has size = amo_row rmw.Sub order 8 tt
+update_row zabha zacas rmw.And W32 order weak start has size = amo_row rmw.And order 4 tt
+update_row zabha zacas rmw.And W64 order weak start has size = amo_row rmw.And order 8 tt
+update_row zabha zacas rmw.Or W32 order weak start has size = amo_row rmw.Or order 4 tt
+update_row zabha zacas rmw.Or W64 order weak start has size = amo_row rmw.Or order 8 tt
+update_row zabha zacas rmw.Xor W32 order weak start has size = amo_row rmw.Xor order 4 tt
+update_row zabha zacas rmw.Xor W64 order weak start has size = amo_row rmw.Xor order 8 tt
+update_row zabha zacas rmw.Max W32 order weak start has size = amo_row rmw.Max order 4 tt
+update_row zabha zacas rmw.Max W64 order weak start has size = amo_row rmw.Max order 8 tt
+update_row zabha zacas rmw.Min W32 order weak start has size = amo_row rmw.Min order 4 tt
+update_row zabha zacas rmw.Min W64 order weak start has size = amo_row rmw.Min order 8 tt
+update_row zabha zacas rmw.UMax W32 order weak start has size = amo_row rmw.UMax order 4 tt
+update_row zabha zacas rmw.UMax W64 order weak start has size = amo_row rmw.UMax order 8 tt
+update_row zabha zacas rmw.UMin W32 order weak start has size = amo_row rmw.UMin order 4 tt
+update_row zabha zacas rmw.UMin W64 order weak start has size = amo_row rmw.UMin order 8 tt
 
-pub rows : (zabha zacas : Bool) (o : Op) (width : Width) (order : Order) (weak : Bool) (start : ℕ) → decided (Rv zabha zacas) o width (bytes_of width) ≡ Inline → is_legal (access_of o) order ≡ true → marks zabha zacas o width order weak start ≡ row_of (Rv zabha zacas) o order width Inline
+-- a linked load and a pair store
+pair_row : (order : Order) (n : ℕ) → Memory (load_code (link_ending order)) n ∷ Memory (store_code (store_ending order)) n ∷ [] ≡ rv_pair order n
+pair_row Unordered n = refl
+pair_row Monotonic n = refl
+pair_row Acquire n = refl
+pair_row Release n = refl
+pair_row AcqRel n = refl
+pair_row SeqCst n = refl
+
+nand_row : (zabha zacas : Bool) (width : Width) (order : Order) (weak : Bool) (start : ℕ) → IsAtomicWidth width → IsRow zabha zacas (op.Rmw rmw.Nand) width order weak start
+nand_row zabha zacas W32 order weak start size = pair_row order 4
+nand_row zabha zacas W64 order weak start size = pair_row order 8
+nand_row zabha zacas W8 order weak start size = absurd size
+nand_row zabha zacas W16 order weak start size = absurd size
+nand_row zabha zacas W128 order weak start size = absurd size
+
+exchange_row : (zabha zacas : Bool) (width : Width) (order : Order) (weak : Bool) (start : ℕ) → IsAtomicWidth width → IsRow zabha zacas op.Cmpxchg width order weak start
+exchange_row zabha zacas W32 order true start size = pair_row order 4
+exchange_row zabha zacas W32 order false start size = pair_row order 4
+exchange_row zabha zacas W64 order true start size = pair_row order 8
+exchange_row zabha zacas W64 order false start size = pair_row order 8
+exchange_row zabha zacas W8 order weak start size = absurd size
+exchange_row zabha zacas W16 order weak start size = absurd size
+exchange_row zabha zacas W128 order weak start size = absurd size
+
+pub rows : (zabha zacas : Bool) (o : Op) (width : Width) (order : Order) (weak : Bool) (start : ℕ) → IsCoded (Rv zabha zacas) (Atomic o width order weak) → is_legal (access_of o) order ≡ true → IsRow zabha zacas o width order weak start
 rows zabha zacas op.Load width order weak start way legal = load_row zabha zacas width order weak start (load_way zabha zacas width way) legal
 rows zabha zacas op.Store width order weak start way legal = store_row zabha zacas width order weak start (store_way zabha zacas width way) legal
-rows zabha zacas op.Cmpxchg width order weak start way legal = absurd (exchange_way zabha zacas width way)
-rows zabha zacas (op.Rmw o) width order weak start way legal = update_row zabha zacas o width order weak start (amo_way zabha zacas o width way)
+rows zabha zacas op.Cmpxchg width order weak start way legal = exchange_row zabha zacas width order weak start (exchange_way zabha zacas width way)
+rows zabha zacas (op.Rmw o) width order weak start way legal =
+    (let size = update_way zabha zacas o width way in
+    ⊎_elim (λ e. subst (λ q. IsRow zabha zacas (op.Rmw q) width order weak start) (sym e) (nand_row zabha zacas width order weak start size)) (λ has. update_row zabha zacas o width order weak start has size) (amo_or_nand o))
 rows zabha zacas op.Fence width order weak start way legal = fence_row zabha zacas width order weak start

@@ -1,5 +1,5 @@
--- THE CODE OF THE WAY INLINE ON RV64 (RISC-V Unprivileged ISA: RV64I, and A, "Atomic Memory Operations"; "Code porting and mapping guidelines", table A.6), and of plain accesses, on the registers that emission gives them.
-use Rattle.std.specs.Prelude.{◌≡◌, ℕ, ◌+◌, ◌-◌, ◌%◌, ◌^◌, ◌≤◌, Bool, List, [], ◌∷◌, ◌++◌, pos, negsuc}
+-- THE CODE OF ATOMIC OPERATIONS ON RV64: that of the way Inline (RISC-V Unprivileged ISA: RV64I, and A, "Atomic Memory Operations"; "Code porting and mapping guidelines", table A.6), and of plain accesses, on the registers that emission gives them.
+use Rattle.std.specs.Prelude.{◌≡◌, ℕ, ◌+◌, ◌-◌, ◌%◌, ◌^◌, ◌≤◌, Bool, true, false, List, [], ◌∷◌, ◌++◌, pos, negsuc}
 use Rattle.ax_words.specs.declared.mark.Op.{Op}
 use Rattle.ax_words.specs.declared.mark.Op.TheVariants as op
 use Rattle.ax_words.specs.declared.operation.RmwOp.{RmwOp}
@@ -9,7 +9,8 @@ use Rattle.ax_words.specs.declared.width.Width.{Width}
 use Rattle.ax_words.specs.declared.width.Width.TheVariants.{W32}
 use Rattle.ax_words.specs.Width.{bits_of, bytes_of}
 use Rattle.ax_target.specs.declared.target.Target.{Target}
-use Rattle.ax_target.specs.declared.decision.Way.TheVariants.{Inline}
+use Rattle.ax_target.specs.declared.decision.Way.{Way}
+use Rattle.ax_target.specs.declared.decision.Way.TheVariants.{Inline, PairLoop}
 use Rattle.ax_target.specs.Decisions.{decided}
 use Rattle.ax_target.specs.RvRows.{column}
 use Rattle.ax_isa.specs.declared.effects.Rest.TheVariants.{Signs}
@@ -22,10 +23,7 @@ use Rattle.ax_rv.specs.declared.instructions.FenceSets.{FenceSets}
 use Rattle.ax_rv.specs.declared.instructions.FenceSets.TheVariants.{ReadBeforeAll, AllBeforeWrite, AllBeforeAll, TotalStoreOrder}
 use Rattle.ax_rv.specs.declared.instructions.Immediate.TheVariants as immediate
 use Rattle.ax_rv.specs.declared.instructions.RvInstr.{RvInstr}
-use Rattle.ax_rv.specs.declared.instructions.RvInstr.TheVariants.{Amo, Fence, Immediate, Load, Nop, Shift, Store, Unary}
-use Rattle.ax_rv.specs.declared.instructions.Shift.TheVariants as shift
-use Rattle.ax_rv.specs.declared.instructions.Size.{Size}
-use Rattle.ax_rv.specs.declared.instructions.Size.TheVariants.{Word, Double}
+use Rattle.ax_rv.specs.declared.instructions.RvInstr.TheVariants.{Amo, Fence, Immediate, Load, Nop, Store, Unary}
 use Rattle.ax_rv.specs.declared.instructions.Unary.TheVariants as unary
 use Rattle.ax_rv.specs.Instructions.{rv_kind}
 use Rattle.ax_fine.specs.OnBytes.{atomic_doing, load_doing, store_doing}
@@ -33,13 +31,14 @@ use Rattle.ax_expand.specs.Doing.{Doing}
 use Rattle.ax_expand.specs.Shared.{Shared}
 use Rattle.ax_emit_rv.specs.Code.{Expansion, load_form, store_form}
 use Rattle.ax_emit_rv.specs.Laws.{every, is_kept}
+use Rattle.ax_llsc.specs.Loops.{clear, exchange_expansion, nand_expansion, size_of}
 use Rattle.ax_llsc.specs.Rounds.{Rounding, code, idle, size}
 
 -- an atomic operation, or a plain access
-pub data Inlined : Type 0 where
-  Atomic : Op → Width → Order → Bool → Inlined
-  PlainLoad : Width → Inlined
-  PlainStore : Width → Inlined
+pub data Coded : Type 0 where
+  Atomic : Op → Width → Order → Bool → Coded
+  PlainLoad : Width → Coded
+  PlainStore : Width → Coded
 
 -- ---- registers
 -- where the address, the number that it takes and its result stand, and what the code keeps
@@ -55,7 +54,7 @@ atomic_registers = record { address = 10; number = 11; result = 15; keeps = is_k
 abbrev pub plain_registers : Registers
 plain_registers = record { address = 5; number = 6; result = 7; keeps = every }
 
-abbrev pub registers_for : Inlined → Registers
+abbrev pub registers_for : Coded → Registers
 registers_for (Atomic o width order weak) = atomic_registers
 registers_for (PlainLoad width) = plain_registers
 registers_for (PlainStore width) = plain_registers
@@ -94,20 +93,11 @@ amo_of rmw.Min = amo.Min
 amo_of rmw.UMax = amo.MaxUnsigned
 amo_of rmw.UMin = amo.MinUnsigned
 
-abbrev pub size_of : Width → Size
-size_of W32 = Word
-size_of _ = Double
-
 -- ---- numbers in registers
 -- a word is extended by its sign, others by zeros
 abbrev pub raw_of : Width → ℕ → ℕ
 raw_of W32 n = extended 4 Signs 0 n
 raw_of _ n = n
-
--- results are extended by zeros
-abbrev pub clear : ℕ → Width → List RvInstr
-clear r W32 = Shift shift.Left r r 32 ∷ Shift shift.Right r r 32 ∷ []
-clear r _ = []
 
 -- the complement of the number before is the negative, mod 2 ^ 64, of any number
 abbrev pub negated : ℕ → ℕ
@@ -195,7 +185,7 @@ fencing doing i =
       raw = λ n. n;
     }
 
--- a compare-exchange is never of this way, and has no code here
+-- a compare-exchange and a nand are never of this way, and have loops
 abbrev pub atomic_rounding : Doing Shared → Op → Width → Order → Rounding RvInstr
 atomic_rounding doing op.Load width order = loading atomic_registers doing width (before_load order) (behind_load order)
 atomic_rounding doing op.Store width order = storing atomic_registers doing width (before_store order)
@@ -203,12 +193,12 @@ atomic_rounding doing op.Cmpxchg width order = fencing doing Nop
 atomic_rounding doing (op.Rmw o) width order = updating doing o width order
 atomic_rounding doing op.Fence width order = fencing doing (fence_instr order)
 
-abbrev pub doing_of : Target → Inlined → Doing Shared
+abbrev pub doing_of : Target → Coded → Doing Shared
 doing_of target (Atomic o width order weak) = atomic_doing target o width order weak
 doing_of target (PlainLoad width) = load_doing target (bytes_of width)
 doing_of target (PlainStore width) = store_doing target (bytes_of width)
 
-abbrev pub rounding : Target → Inlined → Rounding RvInstr
+abbrev pub rounding : Target → Coded → Rounding RvInstr
 rounding target (Atomic o width order weak) = atomic_rounding (atomic_doing target o width order weak) o width order
 rounding target (PlainLoad width) = loading plain_registers (load_doing target (bytes_of width)) width [] []
 rounding target (PlainStore width) = storing plain_registers (store_doing target (bytes_of width)) width []
@@ -216,30 +206,43 @@ rounding target (PlainStore width) = storing plain_registers (store_doing target
 -- the registers with what it takes, and those that get what it gives
 abbrev pub args_of_op : Op → List ℕ
 args_of_op op.Store = 11 ∷ []
+args_of_op op.Cmpxchg = 11 ∷ 12 ∷ []
 args_of_op (op.Rmw o) = 11 ∷ []
 args_of_op _ = []
 
 abbrev pub results_of_op : Op → List ℕ
 results_of_op op.Load = 15 ∷ []
+results_of_op op.Cmpxchg = 15 ∷ 16 ∷ []
 results_of_op (op.Rmw o) = 15 ∷ []
 results_of_op _ = []
 
-abbrev pub args_of : Inlined → List ℕ
+abbrev pub args_of : Coded → List ℕ
 args_of (Atomic o width order weak) = args_of_op o
 args_of (PlainLoad width) = []
 args_of (PlainStore width) = 6 ∷ []
 
-abbrev pub results_of : Inlined → List ℕ
+abbrev pub results_of : Coded → List ℕ
 results_of (Atomic o width order weak) = results_of_op o
 results_of (PlainLoad width) = 7 ∷ []
 results_of (PlainStore width) = []
 
 -- as emission takes it
-abbrev pub expansion_of : Target → Inlined → Expansion
-expansion_of target x = record { piece = code (rounding target x); size = size (rounding target x); most = idle (rounding target x) }
+abbrev pub rounded : Rounding RvInstr → Expansion
+rounded z = record { piece = code z; size = size z; most = idle z }
 
--- the way is Inline, at the object's own alignment
-abbrev pub IsInlined : Target → Inlined → Type 0
-IsInlined target (Atomic o width order weak) = decided target o width (bytes_of width) ≡ Inline
-IsInlined target (PlainLoad width) = bytes_of width ≤ 8
-IsInlined target (PlainStore width) = bytes_of width ≤ 8
+abbrev pub expansion_of : Target → Coded → Expansion
+expansion_of target (Atomic op.Cmpxchg width order weak) = exchange_expansion width order weak
+expansion_of target (Atomic (op.Rmw rmw.Nand) width order weak) = nand_expansion width order
+expansion_of target x = rounded (rounding target x)
+
+-- the ways that have code here: by instructions without a loop, and by loops of linked load and pair store
+abbrev pub is_coded_way : Way → Bool
+is_coded_way Inline = true
+is_coded_way PairLoop = true
+is_coded_way _ = false
+
+-- the way has code, at the object's own alignment
+abbrev pub IsCoded : Target → Coded → Type 0
+IsCoded target (Atomic o width order weak) = is_coded_way (decided target o width (bytes_of width)) ≡ true
+IsCoded target (PlainLoad width) = bytes_of width ≤ 8
+IsCoded target (PlainStore width) = bytes_of width ≤ 8

@@ -1,3 +1,4 @@
 pub mod Rounds
+pub mod Loops
 pub mod Codes
 pub mod Laws

@@ -1,12 +1,13 @@
-//! Expansions of atomic operations that need no loop, on RV64.
+//! Expansions of atomic operations that call no routine, on RV64.
 #![tactic(auto)]
 
 mod laws;
+mod loops;
 mod operations;
 mod table;
 
 pub use laws::{
-    ProgramOnBytes, inline_code_expands, inline_code_is_expanded, inline_code_is_steady,
+    ProgramOnBytes, direct_code_expands, direct_code_is_expanded, direct_code_is_steady,
     plain_accesses_are_expanded,
 };
-pub use operations::InlineOperations;
+pub use operations::DirectOperations;

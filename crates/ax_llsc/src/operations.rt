@@ -1,15 +1,17 @@
-//! The code of operations that need no loop.
+//! The code of operations that call no routine.
 
 ghost use Rattle.std.specs.Prelude.{◌≡◌, ◌++◌, [], ◌∷◌, OnOk, option_to_list, pos};
 ghost use Rattle.ax_words.specs.Width.{bytes_of};
 ghost use Rattle.ax_emit.specs.Lines.{performed_code};
 ghost use Rattle.ax_emit_rv.specs.Code as emission;
 ghost use Rattle.ax_expand.specs.Standing.{silently};
-ghost use Rattle.ax_llsc.specs.Codes.{Atomic, amo_of, before_load, before_store, behind_load, clear, ending_of, expansion_of, fences, operand_of, prepare, size_of};
+ghost use Rattle.ax_llsc.specs.Loops.{clear, size_of};
+ghost use Rattle.ax_llsc.specs.Codes.{Atomic, amo_of, before_load, before_store, behind_load, ending_of, expansion_of, fences, operand_of, prepare};
 
+use crate::loops::{push_exchange, push_nand};
 use crate::table::{
-    amo_of, before_load, before_store, behind_load, ending_of, fence_instr, load_form, operand_of,
-    size_of, store_form,
+    ADDRESS, FREE, NUMBER, RESULT, amo_of, before_load, before_store, behind_load, ending_of,
+    fence_instr, load_form, operand_of, size_of, store_form,
 };
 use ax_emit_rv::{OperationEmitter, Piece, push_acting, push_silent};
 use ax_rv::{FenceSets, Immediate, RvInstr, Shift, Unary};
@@ -17,15 +19,6 @@ use ax_tags::Tag;
 use ax_target::Target;
 use ax_words::{Op, Order, RmwOp, Width};
 use std::alloc::AllocError;
-
-// The registers of an operation: its address, what it takes, what it gives, and one that is free.
-const ADDRESS: u8 = 10;
-
-const NUMBER: u8 = 11;
-
-const RESULT: u8 = 15;
-
-const FREE: u8 = 5;
 
 /// Appends a fence, if there is one.
 fn push_fences(out: &mut Piece, sets: Option<FenceSets>) -> Result<(), AllocError>
@@ -53,7 +46,7 @@ fn push_shift(out: &mut Piece, op: Shift) -> Result<(), AllocError>
 }
 
 /// Appends what extends a word by zeros, which was extended by its sign.
-fn push_clear(out: &mut Piece, width: Width) -> Result<(), AllocError>
+pub(crate) fn push_clear(out: &mut Piece, width: Width) -> Result<(), AllocError>
     ensures { OnOk result (out.new.items ≡ out.old.items ++ silently (clear 15 width)) }
 {
     match width {
@@ -155,15 +148,16 @@ fn push_update(out: &mut Piece, op: RmwOp, width: Width, order: Order) -> Result
     Ok(())
 }
 
-/// The code of operations by single instructions, where the way of a target is Inline (RISC-V
-/// Unprivileged ISA: RV64I, and A, "Atomic Memory Operations"). A compare-exchange is never of this
-/// way, and has no code but a `nop`.
+/// The code of operations that call no routine, where the way of a target is Inline or PairLoop:
+/// single instructions (RISC-V Unprivileged ISA: RV64I, and A, "Atomic Memory Operations"), and for a
+/// compare-exchange and a nand loops of a linked load and a pair store
+/// ("Load-Reserved/Store-Conditional Instructions").
 #[derive(Clone, Copy)]
-pub struct InlineOperations {
+pub struct DirectOperations {
     pub target: Target,
 }
 
-impl OperationEmitter for InlineOperations {
+impl OperationEmitter for DirectOperations {
     ghost expansions = { λ it o width order weak. expansion_of it.target (Atomic o width order weak) };
 
     fn push_operation(
@@ -171,14 +165,15 @@ impl OperationEmitter for InlineOperations {
         op: Op,
         width: Width,
         order: Order,
-        _weak: bool,
+        weak: bool,
         _start: u32,
         out: &mut Vec<(RvInstr, Tag)>,
     ) -> Result<(), AllocError> {
         match op {
             Op::Load => push_load(out, width, order)?,
             Op::Store => push_store(out, width, order)?,
-            Op::Cmpxchg => push_acting(out, RvInstr::Nop)?,
+            Op::Cmpxchg => push_exchange(out, width, order, weak)?,
+            Op::Rmw(RmwOp::Nand) => push_nand(out, width, order)?,
             Op::Rmw(op) => push_update(out, op, width, order)?,
             Op::Fence => push_acting(out, fence_instr(order))?,
         }

@@ -1,3 +1,4 @@
+pub mod Registers
 pub mod Still
 pub mod Alone
 pub mod Walking

@@ -4,7 +4,8 @@ use Rattle.std.specs.Prelude.{◌⊎◌, ◌&&◌, ◌||◌, not, if◌then◌el
 use Rattle.std.proofs.lemmas.Bool.{eq-eqb, false≢true, true≢false}
 use Rattle.std.proofs.lemmas.Bool.Decides.{nat_tests}
 use Rattle.ax_store.specs.declared.entry.Entry.{Entry}
-use Rattle.ax_store.specs.Bytes.{number_at, covers}
+use Rattle.ax_map.specs.Map.{covers}
+use Rattle.ax_store.specs.Bytes.{number_at}
 use Rattle.ax_store.specs.Storage.{Storage, at_place, load, newest, seen}
 use Rattle.ax_store.proofs.Numbers.{number_same}
 use Rattle.ax_tags.specs.declared.tags.Role.{Role}

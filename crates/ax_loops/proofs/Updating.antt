@@ -3,7 +3,8 @@ use Rattle.std.proofs.Common.{◌≡◌, ℕ, ◌-◌, ◌*◌, ◌/◌, ◌%◌
 use Rattle.std.specs.Prelude.{◌&&◌, if◌then◌else◌}
 use Rattle.ax_words.specs.declared.operation.RmwOp.{RmwOp}
 use Rattle.ax_store.specs.declared.entry.Entry.{Entry}
-use Rattle.ax_store.specs.Bytes.{IsWidth, all_inside, byte_of, covers}
+use Rattle.ax_map.specs.Map.{covers}
+use Rattle.ax_store.specs.Bytes.{IsWidth, all_inside, byte_of}
 use Rattle.ax_store.specs.Storage.{byte_after, load, newest, seen}
 use Rattle.ax_store.proofs.Numbers.{number_small}
 use Rattle.ax_isa.specs.Past.{Noted}

@@ -1,3 +1,4 @@
+pub mod Registers
 pub mod Moving
 pub mod Replacing
 pub mod Retry

@@ -11,7 +11,8 @@ use Rattle.ax_target.specs.declared.target.Target.{Target}
 use Rattle.ax_target.specs.Decisions.{is_rv64}
 use Rattle.ax_mid.specs.WellFormed.{is_direct_way}
 use Rattle.ax_selected.specs.Direct.{is_direct, needs_no_routine}
-use Rattle.ax_inline_rv.specs.Inline.{is_built, is_inline, is_inline_module, is_inline_way}
+use Rattle.ax_llsc.specs.Codes.{is_coded_way}
+use Rattle.ax_direct_rv.specs.Direct.{is_built, is_coded, is_direct_module}
 use Rattle.ax_lower.specs.declared.built.Asked.{Asked}
 use Rattle.ax_lower.specs.Ways.{calls_no_routine, meets, way_of}
 
@@ -28,13 +29,13 @@ direct t (inst.Rmw o a ty v order align) = refl
 direct t (inst.Call result name args) = refl
 direct t _ = refl
 
-pub inlined : (t : Target) (i : Inst) → by_way is_inline_way true (way_of t i) ≡ is_inline t i
-unfolding is_inline way_of
-inlined t (inst.LoadAtomic ty a order align) = refl
-inlined t (inst.StoreAtomic ty v a order align) = refl
-inlined t (inst.Cmpxchg weak a ty v new_ty w success failure align) = refl
-inlined t (inst.Rmw o a ty v order align) = refl
-inlined t _ = refl
+pub coded : (t : Target) (i : Inst) → by_way is_coded_way true (way_of t i) ≡ is_coded t i
+unfolding is_coded way_of
+coded t (inst.LoadAtomic ty a order align) = refl
+coded t (inst.StoreAtomic ty v a order align) = refl
+coded t (inst.Cmpxchg weak a ty v new_ty w success failure align) = refl
+coded t (inst.Rmw o a ty v order align) = refl
+coded t _ = refl
 
 -- with the way that was found
 pub direct_some : (t : Target) (i : Inst) (way : Way) → Some way ≡ way_of t i → is_direct_way way ≡ is_direct t i
@@ -43,15 +44,15 @@ direct_some t i way is = ap (by_way is_direct_way (calls_no_routine i)) is ∙ d
 pub direct_none : (t : Target) (i : Inst) → None ≡ way_of t i → calls_no_routine i ≡ is_direct t i
 direct_none t i is = ap (by_way is_direct_way (calls_no_routine i)) is ∙ direct t i
 
-pub inline_some : (t : Target) (i : Inst) (way : Way) → Some way ≡ way_of t i → is_inline_way way ≡ is_inline t i
-inline_some t i way is = ap (by_way is_inline_way true) is ∙ inlined t i
+pub coded_some : (t : Target) (i : Inst) (way : Way) → Some way ≡ way_of t i → is_coded_way way ≡ is_coded t i
+coded_some t i way is = ap (by_way is_coded_way true) is ∙ coded t i
 
-pub inline_none : (t : Target) (i : Inst) → None ≡ way_of t i → true ≡ is_inline t i
-inline_none t i is = ap (by_way is_inline_way true) is ∙ inlined t i
+pub coded_none : (t : Target) (i : Inst) → None ≡ way_of t i → true ≡ is_coded t i
+coded_none t i is = ap (by_way is_coded_way true) is ∙ coded t i
 
 -- a module is built by these three answers
-pub built_is : (p : SourceProgram) (a b c : Bool) → a ≡ is_rv64 p.target → b ≡ needs_no_routine p → c ≡ is_inline_module p → (a && b && c) ≡ is_built p
-built_is p a b c rv direct loops = λ d. rv d && direct d && loops d
+pub built_is : (p : SourceProgram) (a b c : Bool) → a ≡ is_rv64 p.target → b ≡ needs_no_routine p → c ≡ is_direct_module p → (a && b && c) ≡ is_built p
+built_is p a b c rv direct coded = λ d. rv d && direct d && coded d
 
 -- the second answer alone refuses
 pub refused : (a b c : Bool) → b ≡ false → false ≡ (a && b && c)

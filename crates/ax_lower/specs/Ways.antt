@@ -8,9 +8,9 @@ use Rattle.ax_target.specs.declared.decision.Way.{Way}
 use Rattle.ax_target.specs.declared.target.Target.{Target}
 use Rattle.ax_target.specs.Decisions.{decided}
 use Rattle.ax_selected.specs.Direct.{is_direct}
-use Rattle.ax_inline_rv.specs.Inline.{is_inline}
+use Rattle.ax_direct_rv.specs.Direct.{is_coded}
 use Rattle.ax_lower.specs.declared.built.Asked.{Asked}
-use Rattle.ax_lower.specs.declared.built.Asked.TheVariants.{NoRoutine, NoLoop}
+use Rattle.ax_lower.specs.declared.built.Asked.TheVariants.{CodedWay, NoRoutine}
 
 -- of an atomic instruction, under the decision table
 unfoldable pub way_of : Target → Inst → Option Way
@@ -27,4 +27,4 @@ calls_no_routine _ = true
 
 abbrev pub meets : Asked → Target → Inst → Bool
 meets NoRoutine target i = is_direct target i
-meets NoLoop target i = is_inline target i
+meets CodedWay target i = is_coded target i

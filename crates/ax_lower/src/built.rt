@@ -6,7 +6,8 @@ ghost use Rattle.ax_source_run.specs.SourceInstructions.{is_out};
 ghost use Rattle.ax_target.specs.Decisions.{is_rv64};
 ghost use Rattle.ax_mid.specs.WellFormed.{is_direct_way};
 ghost use Rattle.ax_selected.specs.Direct.{is_direct};
-ghost use Rattle.ax_inline_rv.specs.Inline.{is_built, is_inline, is_inline_way};
+ghost use Rattle.ax_direct_rv.specs.Direct.{is_built, is_coded};
+ghost use Rattle.ax_llsc.specs.Codes.{is_coded_way};
 ghost use Rattle.ax_lower.specs.Ways.{calls_no_routine, meets, way_of};
 
 use ax_check::Accepted;
@@ -18,8 +19,10 @@ use ax_words::Op;
 /// What is asked of each instruction of a module that is built.
 #[derive(Clone, Copy)]
 pub(crate) enum Asked {
+    /// It is lowered without a call of a routine.
     NoRoutine,
-    NoLoop,
+    /// It is lowered in a way that has code.
+    CodedWay,
 }
 
 fn is_rv64(t: Target) -> bool
@@ -79,18 +82,20 @@ fn is_direct(t: Target, inst: &Inst) -> bool
     }
 }
 
-fn is_inline_way(way: Way) -> bool
-    ensures { result ≡ is_inline_way way }
+/// Whether the code of a way is known here: by single instructions, and by loops of a linked load and
+/// a pair store.
+fn is_coded_way(way: Way) -> bool
+    ensures { result ≡ is_coded_way way }
 {
-    matches!(way, Way::Inline)
+    matches!(way, Way::Inline | Way::PairLoop)
 }
 
-#[tactic(auto, using(crate::proofs::Asking::inline_some, crate::proofs::Asking::inline_none))]
-fn is_inline(t: Target, inst: &Inst) -> bool
-    ensures { result ≡ is_inline t inst.now }
+#[tactic(auto, using(crate::proofs::Asking::coded_some, crate::proofs::Asking::coded_none))]
+fn is_coded(t: Target, inst: &Inst) -> bool
+    ensures { result ≡ is_coded t inst.now }
 {
     match way_of(t, inst) {
-        Some(way) => is_inline_way(way),
+        Some(way) => is_coded_way(way),
         None => true,
     }
 }
@@ -100,7 +105,7 @@ fn meets(asked: Asked, t: Target, inst: &Inst) -> bool
 {
     match asked {
         Asked::NoRoutine => is_direct(t, inst),
-        Asked::NoLoop => is_inline(t, inst),
+        Asked::CodedWay => is_coded(t, inst),
     }
 }
 
@@ -126,8 +131,9 @@ fn meets_in_functions(asked: Asked, t: Target, functions: &[Function]) -> bool
     functions.iter().all(|f| meets_in_function(asked, t, f))
 }
 
-/// Whether a module is built: its target is RV64, and each of its atomic instructions is lowered
-/// there without a loop and without a call of a routine.
+/// Whether a module is built: its target is RV64, it calls no routine, and each of its atomic
+/// instructions is lowered there by a single instruction or by a loop of a linked load and a pair
+/// store (the decision table's ways Inline and PairLoop).
 pub fn is_built(a: &Accepted) -> bool
     ensures { result ≡ is_built a.now }
 {
@@ -138,5 +144,5 @@ pub fn is_built(a: &Accepted) -> bool
     if !meets_in_functions(Asked::NoRoutine, t, functions) {
         return false;
     }
-    meets_in_functions(Asked::NoLoop, t, functions)
+    meets_in_functions(Asked::CodedWay, t, functions)
 }

@@ -4,7 +4,7 @@ ghost use Rattle.std.specs.Prelude.{◌≡◌, ◌≤◌, IfOk, length, map, tru
 ghost use Rattle.ax_emit.specs.Behind.{behind_in};
 ghost use Rattle.ax_emit.specs.Passes.{placed};
 ghost use Rattle.ax_image_rv.specs.Image.{frame_size};
-ghost use Rattle.ax_inline_rv.specs.Inline.{inline_image, is_built};
+ghost use Rattle.ax_direct_rv.specs.Direct.{direct_image, is_built};
 ghost use Rattle.ax_selected.specs.Selected.{selected};
 ghost use Rattle.ax_lower.specs.Entries.{entries_at};
 
@@ -15,13 +15,13 @@ use ax_emit::{
 };
 use ax_emit_rv::{RvEmitter, line_code_is_steady};
 use ax_isa::Image;
-use ax_llsc::{InlineOperations, inline_code_is_steady};
+use ax_llsc::{DirectOperations, direct_code_is_steady};
 use ax_mid::{Mid, Virtual};
 use ax_module::Function;
 use ax_pieces::block_label;
 use ax_rv::RvInstr;
 use ax_selected::selected_lines_are_small;
-use ax_sound_rv::inline_images_are_short;
+use ax_sound_rv::direct_images_are_short;
 use ax_words::Items;
 use std::alloc::{AllocError, Global};
 
@@ -75,21 +75,21 @@ pub(crate) fn image_of(
 ) -> Result<Image<RvInstr>, AllocError>
     requires built { is_built a.now ≡ true }
     requires middle { middle.now ≡ selected a.now }
-    ensures { IfOk result (λ image. image ≡ inline_image a.now) }
+    ensures { IfOk result (λ image. image ≡ direct_image a.now) }
 {
     a.is_without_faults();
     accepted_functions_are_within_limits();
     selected_lines_are_small();
-    inline_images_are_short();
+    direct_images_are_short();
     line_code_is_steady::<Virtual>();
-    inline_code_is_steady();
+    direct_code_is_steady();
     places_agree::<RvInstr, Virtual>();
     same_code_is_one_image::<RvInstr, Virtual>();
     same_sizes_are_one_place::<Virtual>();
     let lines = middle.lines.as_slice();
     let functions = a.module().functions.as_slice();
     let labels = Labels::of(alloc, lines)?;
-    let operations = InlineOperations { target: a.target() };
+    let operations = DirectOperations { target: a.target() };
     let emitter = RvEmitter {
         depth: FRAME_DEPTH,
         labels: &labels,

@@ -1,24 +1,18 @@
 -- The machine code of each middle instruction: how long it is, which of its instructions may lead elsewhere, and which marks it has.
-use Rattle.std.proofs.Common.{◌≡◌, ℕ, ◌+◌, ◌<◌, Bool, true, false, List, [], ◌∷◌, ◌++◌, map, length, refl, sym, ap, ◌∙◌, subst, arith, flat_map}
+use Rattle.std.proofs.Common.{◌≡◌, ℕ, ◌+◌, ◌<◌, ◌≤◌, Bool, true, false, List, [], ◌∷◌, ◌++◌, length, refl, sym, ap, ◌∙◌, subst, arith, flat_map}
 use Rattle.std.specs.Prelude.{◌-◌, if◌then◌else◌, nat_eq, nat_lt, pos}
 use Rattle.std.proofs.lemmas.Bool.{true≢false}
 use Rattle.std.proofs.lemmas.Grind.{flat_map-append}
-use Rattle.std.proofs.lemmas.List.{append-nil, length-append, length-map, map-append}
+use Rattle.std.proofs.lemmas.List.{append-nil, length-append, length-map}
 use Rattle.ax_words.specs.declared.mark.Mark.{Mark}
 use Rattle.ax_words.specs.declared.mark.Op.{Op}
-use Rattle.ax_words.specs.declared.mark.Op.TheVariants as op
-use Rattle.ax_words.specs.declared.operation.RmwOp.{RmwOp}
-use Rattle.ax_words.specs.declared.operation.RmwOp.TheVariants as rmw
 use Rattle.ax_words.specs.declared.order.Order.{Order}
-use Rattle.ax_words.specs.declared.order.Order.TheVariants.{Unordered, Monotonic, Acquire, Release, AcqRel, SeqCst}
 use Rattle.ax_words.specs.declared.width.Width.{Width}
-use Rattle.ax_words.specs.declared.width.Width.TheVariants.{W8, W16, W32, W64, W128}
 use Rattle.ax_tags.specs.declared.tags.Tag.{Tag}
 use Rattle.ax_tags.specs.declared.tags.Tag.TheVariants.{Act, Silent}
 use Rattle.ax_target.specs.declared.target.Target.{Target}
 use Rattle.ax_rv.specs.declared.instructions.Binary.TheVariants as binary
 use Rattle.ax_rv.specs.declared.instructions.Condition.TheVariants as condition
-use Rattle.ax_rv.specs.declared.instructions.FenceSets.{FenceSets}
 use Rattle.ax_rv.specs.declared.instructions.RvInstr.{RvInstr}
 use Rattle.ax_rv.specs.declared.instructions.RvInstr.TheVariants as rv
 use Rattle.ax_rv.specs.Instructions.{is_frame_register}
@@ -27,31 +21,19 @@ use Rattle.ax_mid.specs.declared.instruction.MidInst.{MidInst}
 use Rattle.ax_mid.specs.declared.instruction.MidInst.TheVariants as mid
 use Rattle.ax_mid.specs.declared.instruction.MidOp.{MidOp}
 use Rattle.ax_mid.specs.declared.instruction.MidOp.TheVariants as mid_op
-use Rattle.ax_expand.specs.Doing.{Doing}
-use Rattle.ax_expand.specs.Shared.{Shared}
 use Rattle.ax_expand.specs.Standing.{silently}
 use Rattle.ax_emit.specs.Atomics.{gets_all, puts_all}
 use Rattle.ax_emit.specs.Lines.{performed_code}
 use Rattle.ax_emit_rv.specs.Code.{cleared, extend_code, first_argument, first_result, get_one, homes_from, jump_to, load_in, op_code, piece_of, select_code, shift_of, store_in}
 use Rattle.ax_emit_rv.specs.Slots.{down, get, get_by, near_slots, put_first, put_first_by, put_last, put_last_by, rv_table}
-use Rattle.ax_fine.specs.OnBytes.{atomic_doing}
-use Rattle.ax_llsc.specs.Codes.{Atomic, atomic_rounding, before_load, before_store, behind_load, clear, expansion_of, fence_instr, fences, prepare}
+use Rattle.ax_llsc.specs.Codes.{Atomic, expansion_of}
 use Rattle.ax_selected.specs.Registers.{block_label}
-use Rattle.ax_inline_rv.specs.Inline.{inline_expansions}
+use Rattle.ax_direct_rv.specs.Direct.{direct_expansions}
+use Rattle.ax_marks_rv.proofs.Expanded.{bare, bare_all, bare_silently, bare_wrapped, expanded, expanded_some, steady}
+use Rattle.ax_marks_rv.proofs.Inside.{IsStill}
 use Rattle.ax_marks_rv.proofs.Items.{Each, Placed, each_both, placed_both, placed_each}
 
--- ---- instructions of the machine
--- one that may lead elsewhere than to the next place
-abbrev pub is_going : RvInstr → Bool
-is_going (rv.Jump distance) = true
-is_going (rv.Call routine place) = true
-is_going rv.Ret = true
-is_going (rv.Branch test a b distance) = true
-is_going _ = false
-
-abbrev pub IsStill : RvInstr → Type 0
-IsStill i = is_going i ≡ false
-
+-- ---- marks of instructions
 abbrev pub marks : RvInstr → List Mark
 marks i = mark_of is_frame_register i
 
@@ -80,23 +62,7 @@ calm_unmarked : (is : List RvInstr) → Each (IsCalm false) is → marks_in is �
 calm_unmarked [] h = refl
 calm_unmarked (i ∷ is) h = ap (λ (ms : List Mark). ms ++ marks_in is) (h.0.1 refl) ∙ calm_unmarked is h.1
 
--- ---- without their marks of events
-abbrev pub bare : List (RvInstr × Tag) → List RvInstr
-bare zs = map (λ z. z.0) zs
-
-bare_silently : (is : List RvInstr) (zs : List (RvInstr × Tag)) → bare (silently is ++ zs) ≡ is ++ bare zs
-bare_silently [] zs = refl
-bare_silently (i ∷ is) zs = ap (λ (l : List RvInstr). i ∷ l) (bare_silently is zs)
-
-bare_all : (is : List RvInstr) → bare (silently is) ≡ is
-bare_all [] = refl
-bare_all (i ∷ is) = ap (λ (l : List RvInstr). i ∷ l) (bare_all is)
-
-bare_wrapped : (before : List RvInstr) (zs : List (RvInstr × Tag)) (after : List RvInstr) → bare (silently before ++ (zs ++ silently after)) ≡ before ++ (bare zs ++ after)
-bare_wrapped before zs after =
-    bare_silently before (zs ++ silently after)
-    ∙ ap (λ (l : List RvInstr). before ++ l) (map-append (λ (z : RvInstr × Tag). z.0) zs (silently after) ∙ ap (λ (l : List RvInstr). bare zs ++ l) (bare_all after))
-
+-- ---- sizes
 some_of : (is : List RvInstr) (z : RvInstr × Tag) (zs : List (RvInstr × Tag)) → 0 < length (silently is ++ (z ∷ zs))
 some_of is z zs = let e = length-append (silently is) (z ∷ zs) in omega (arith, e)
 
@@ -175,62 +141,6 @@ module _ (plain : Bool) where
   access_calm : (i : RvInstr) → IsStill i → plain ≡ true → IsCalm plain i
   access_calm i h is = (h, λ e. absurd (true≢false (sym is ∙ e)))
 
--- ---- expansions
-fences_still : (sets : List FenceSets) → Each IsStill (fences sets)
-fences_still [] = tt
-fences_still (s ∷ sets) = (refl, fences_still sets)
-
-clear_still : (r : ℕ) (width : Width) → Each IsStill (clear r width)
-clear_still r W8 = tt
-clear_still r W16 = tt
-clear_still r W32 = (refl, (refl, tt))
-clear_still r W64 = tt
-clear_still r W128 = tt
-
-prepare_still : (o : RmwOp) → Each IsStill (prepare o)
-prepare_still rmw.Sub = (refl, (refl, tt))
-prepare_still _ = tt
-
-fence_still : (order : Order) → IsStill (fence_instr order)
-fence_still Unordered = refl
-fence_still Monotonic = refl
-fence_still Acquire = refl
-fence_still Release = refl
-fence_still AcqRel = refl
-fence_still SeqCst = refl
-
-module _ (doing : Doing Shared) (width : Width) (order : Order) where
-  before_still : (o : Op) → Each IsStill (atomic_rounding doing o width order).before
-  before_still op.Load = fences_still (before_load order)
-  before_still op.Store = fences_still (before_store order)
-  before_still op.Cmpxchg = tt
-  before_still (op.Rmw o) = prepare_still o
-  before_still op.Fence = tt
-
-  access_still : (o : Op) → IsStill (atomic_rounding doing o width order).access
-  access_still op.Load = refl
-  access_still op.Store = refl
-  access_still op.Cmpxchg = refl
-  access_still (op.Rmw o) = refl
-  access_still op.Fence = fence_still order
-
-  after_still : (o : Op) → Each IsStill (atomic_rounding doing o width order).after
-  after_still op.Load = each_both IsStill (fences (behind_load order)) (clear 15 width) (fences_still (behind_load order)) (clear_still 15 width)
-  after_still op.Store = tt
-  after_still op.Cmpxchg = tt
-  after_still (op.Rmw o) = clear_still 15 width
-  after_still op.Fence = tt
-
--- the code of an atomic operation on registers
-abbrev pub expanded : Target → Op → Width → Order → Bool → List RvInstr
-expanded target o width order weak = bare ((expansion_of target (Atomic o width order weak)).piece 0)
-
-expanded_still : (target : Target) (o : Op) (width : Width) (order : Order) (weak : Bool) → Each IsStill (expanded target o width order weak)
-expanded_still target o width order weak =
-    let z = atomic_rounding (atomic_doing target o width order weak) o width order in
-    subst (Each IsStill) (sym (bare_wrapped z.before ((z.access, Act) ∷ []) z.after))
-    (each_both IsStill z.before (z.access ∷ z.after) (before_still (atomic_doing target o width order weak) width order o) (access_still (atomic_doing target o width order weak) width order o, after_still (atomic_doing target o width order weak) width order o))
-
 -- ---- middle instructions
 -- one that computes or, in the code of plain accesses, has an access
 abbrev pub IsLevel : {R : Type 0} → Bool → MidInst R → Type 0
@@ -271,7 +181,7 @@ row_in target _ = []
 
 module _ {R : Type 0} (key : R → ℕ) (depth : ℕ) (behind : ℕ → ℕ) (target : Target) where
   abbrev pub tagged : MidInst R → (ℕ → ℕ) → ℕ → List (RvInstr × Tag)
-  tagged i places start = piece_of key depth behind (inline_expansions target) i places start
+  tagged i places start = piece_of key depth behind (direct_expansions target) i places start
 
   abbrev pub machine : MidInst R → (ℕ → ℕ) → ℕ → List RvInstr
   machine i places start = bare (tagged i places start)
@@ -289,6 +199,10 @@ module _ {R : Type 0} (key : R → ℕ) (depth : ℕ) (behind : ℕ → ℕ) (ta
     where
       any : {A : Type 0} (xs : List A) (a b c d e g : A) → length (xs ++ (a ∷ b ∷ c ∷ [])) ≡ length (xs ++ (d ∷ e ∷ g ∷ []))
       any xs a b c d e g = length-append xs (a ∷ b ∷ c ∷ []) ∙ sym (length-append xs (d ∷ e ∷ g ∷ []))
+  same_size (mid.Atomic o width order weak address args results) places start =
+      let gets = gets_all rv_table ((10, key address) ∷ homes_from key first_argument args) in
+      let puts = puts_all rv_table (homes_from key first_result results) in
+      ap (λ (is : List (RvInstr × Tag)). length (silently gets ++ (is ++ silently puts))) (steady target o width order weak (start + length gets) ∙ sym (steady target o width order weak (0 + length gets)))
   same_size _ places start = refl
 
   pub machine_sizes : (i : MidInst R) (places : ℕ → ℕ) (start : ℕ) → length (machine i places start) ≡ machine_size i
@@ -364,34 +278,55 @@ module _ {R : Type 0} (key : R → ℕ) (depth : ℕ) (behind : ℕ → ℕ) (ta
     abbrev puts : List RvInstr
     puts = puts_all rv_table (homes_from key first_result results)
 
-    atomic_is : (places : ℕ → ℕ) (start : ℕ) → machine (mid.Atomic o width order weak address args results) places start ≡ gets ++ (expanded target o width order weak ++ puts)
+    abbrev mine : List RvInstr
+    mine = expanded target o width order weak
+
+    abbrev own : MidInst R
+    own = mid.Atomic o width order weak address args results
+
+    gets_still : Each IsStill gets
+    gets_still = still_each false gets (gets_calm false ((10, key address) ∷ homes_from key first_argument args))
+
+    puts_still : Each IsStill puts
+    puts_still = still_each false puts (puts_calm false (homes_from key first_result results))
+
+    atomic_is : (places : ℕ → ℕ) (start : ℕ) → machine own places start ≡ gets ++ (mine ++ puts)
     unfolding piece_of
-    atomic_is places start = bare_wrapped gets ((expansion_of target (Atomic o width order weak)).piece 0) puts
+    atomic_is places start =
+        ap (λ (is : List (RvInstr × Tag)). bare (silently gets ++ (is ++ silently puts))) (steady target o width order weak (start + length gets))
+        ∙ bare_wrapped gets ((expansion_of target (Atomic o width order weak)).piece 0) puts
 
-    pub atomic_still : (places : ℕ → ℕ) (start : ℕ) → Each IsStill (machine (mid.Atomic o width order weak address args results) places start)
-    atomic_still places start =
-        subst (Each IsStill) (sym (atomic_is places start))
-        (each_both IsStill gets (expanded target o width order weak ++ puts) (still_each false gets (gets_calm false ((10, key address) ∷ homes_from key first_argument args)))
-        (each_both IsStill (expanded target o width order weak) puts (expanded_still target o width order weak) (still_each false puts (puts_calm false (homes_from key first_result results)))))
+    atomic_size : machine_size own ≡ length gets + (length mine + length puts)
+    atomic_size =
+        sym (machine_sizes own (λ j. 0) 0)
+        ∙ (ap (λ (l : List RvInstr). length l) (atomic_is (λ j. 0) 0)
+        ∙ (length-append gets (mine ++ puts)
+        ∙ ap (λ (n : ℕ). length gets + n) (length-append mine puts)))
 
-    pub atomic_marks : (places : ℕ → ℕ) (start : ℕ) → marks_in (machine (mid.Atomic o width order weak address args results) places start) ≡ marks_in (expanded target o width order weak)
+    -- what holds of each place: its own instructions lead nowhere, and those of the operation stand among them
+    pub atomic_placed : (P : ℕ → RvInstr → Type 0) → ((place : ℕ) (i : RvInstr) → IsStill i → P place i) → (places : ℕ → ℕ) (start : ℕ)
+        → ((at : ℕ) → start ≤ at → at + length mine ≤ start + machine_size own → Placed P at mine) → Placed P start (machine own places start)
+    atomic_placed P still places start operates =
+        let size = atomic_size in
+        subst (Placed P start) (sym (atomic_is places start))
+        (placed_both P start gets (mine ++ puts) (placed_each P IsStill still start gets gets_still)
+        (placed_both P (start + length gets) mine puts (operates (start + length gets) (omega arith) (omega (arith, size)))
+        (placed_each P IsStill still (start + length gets + length mine) puts puts_still)))
+
+    pub atomic_marks : (places : ℕ → ℕ) (start : ℕ) → marks_in (machine own places start) ≡ marks_in mine
     atomic_marks places start =
         ap marks_in (atomic_is places start)
-        ∙ (marks_both gets (expanded target o width order weak ++ puts)
-        ∙ (ap (λ (ms : List Mark). ms ++ marks_in (expanded target o width order weak ++ puts)) (calm_unmarked gets (gets_calm false ((10, key address) ∷ homes_from key first_argument args)))
-        ∙ (marks_both (expanded target o width order weak) puts
-        ∙ (ap (λ (ms : List Mark). marks_in (expanded target o width order weak) ++ ms) (calm_unmarked puts (puts_calm false (homes_from key first_result results)))
-        ∙ append-nil (marks_in (expanded target o width order weak))))))
+        ∙ (marks_both gets (mine ++ puts)
+        ∙ (ap (λ (ms : List Mark). ms ++ marks_in (mine ++ puts)) (calm_unmarked gets (gets_calm false ((10, key address) ∷ homes_from key first_argument args)))
+        ∙ (marks_both mine puts
+        ∙ (ap (λ (ms : List Mark). marks_in mine ++ ms) (calm_unmarked puts (puts_calm false (homes_from key first_result results)))
+        ∙ append-nil (marks_in mine)))))
 
-    atomic_some : 0 < machine_size (mid.Atomic o width order weak address args results)
-    unfolding piece_of
+    atomic_some : 0 < machine_size own
     atomic_some =
-        let z = atomic_rounding (atomic_doing target o width order weak) o width order in
-        let code = silently z.before ++ ((z.access, Act) ∷ silently z.after) in
-        let here = some_of z.before (z.access, Act) (silently z.after) in
-        let a = length-append (silently gets) (code ++ silently puts) in
-        let b = length-append code (silently puts) in
-        omega (arith, here, a, b)
+        let here = expanded_some target o width order weak in
+        let size = atomic_size in
+        omega (arith, here, size)
 
   -- ---- last instructions
   pub last_some : (plain goes : Bool) (f : ℕ) (i : MidInst R) → IsLast plain goes f i → 0 < machine_size i
@@ -445,29 +380,42 @@ module _ {R : Type 0} (key : R → ℕ) (depth : ℕ) (behind : ℕ → ℕ) (ta
         (placed_each P (IsCalm plain) calm start (get_one key 5 test) (gets_calm plain ((5, key test) ∷ [])))
         (turn, (low, (subst (λ (q : ℕ). P q (jump_to (start + n + 2) (places (behind a)))) next high, tt))))
 
-    pub last_placed : (plain goes : Bool) (f : ℕ) → ((place : ℕ) (i : RvInstr) → IsStill i → P place i) → (places : ℕ → ℕ) (start : ℕ) → ((m : ℕ) → goes ≡ true → P start (jump_to start (places (behind (block_label f m))))) → (goes ≡ true → P start rv.Ret)
-        → (i : MidInst R) → IsLast plain goes f i → Placed P start (machine i places start)
-    last_placed plain goes f still places start jumps returns i h = by i h
-      where
-        level : (i : MidInst R) → IsLevel plain i → Placed P start (machine i places start)
-        level i h = placed_each P IsStill still start (machine i places start) (still_each plain (machine i places start) (level_calm plain i h places start))
+    -- what is asked of each place of a last instruction
+    pub record LastHolds (goes : Bool) (f : ℕ) (places : ℕ → ℕ) (start : ℕ) (i : MidInst R) : Type 0 where
+      pub still : (place : ℕ) (x : RvInstr) → IsStill x → P place x
+      pub jumps : (m : ℕ) → goes ≡ true → P start (jump_to start (places (behind (block_label f m))))
+      pub returns : goes ≡ true → P start rv.Ret
+      pub operates :
+          (o : Op) (width : Width) (order : Order) (weak : Bool) (address : R) (args results : List R) → i ≡ mid.Atomic o width order weak address args results
+          → (at : ℕ) → start ≤ at → at + length (expanded target o width order weak) ≤ start + machine_size i → Placed P at (expanded target o width order weak)
 
-        by : (i : MidInst R) → IsLast plain goes f i → Placed P start (machine i places start)
-        by (mid.Const to n) h = level (mid.Const to n) tt
-        by (mid.Copy to from) h = level (mid.Copy to from) tt
-        by (mid.Apply o to left right) h = level (mid.Apply o to left right) tt
-        by (mid.Shift o to from s) h = level (mid.Shift o to from s) tt
-        by (mid.Extend to from bits signed) h = level (mid.Extend to from bits signed) tt
-        by (mid.Select to test x y) h = level (mid.Select to test x y) tt
-        by (mid.FrameAddress to offset) h = level (mid.FrameAddress to offset) tt
-        by (mid.Load to address n) h = level (mid.Load to address n) h
-        by (mid.Store address from n) h = level (mid.Store address from n) h
-        by (mid.Atomic o width order weak address args results) h = placed_each P IsStill still start _ (atomic_still o width order weak address args results places start)
-        by (mid.Jump n) h =
+    pub last_placed : (plain goes : Bool) (f : ℕ) (places : ℕ → ℕ) (start : ℕ) (i : MidInst R) → IsLast plain goes f i → LastHolds goes f places start i → Placed P start (machine i places start)
+    last_placed plain goes f places start i h holds = by i refl h
+      where
+        stills : (is : List RvInstr) → Each IsStill is → Placed P start is
+        stills is each = placed_each P IsStill holds.still start is each
+
+        level : (j : MidInst R) → IsLevel plain j → Placed P start (machine j places start)
+        level j g = stills (machine j places start) (still_each plain (machine j places start) (level_calm plain j g places start))
+
+        by : (j : MidInst R) → i ≡ j → IsLast plain goes f j → Placed P start (machine j places start)
+        by (mid.Const to n) e g = level (mid.Const to n) tt
+        by (mid.Copy to from) e g = level (mid.Copy to from) tt
+        by (mid.Apply o to left right) e g = level (mid.Apply o to left right) tt
+        by (mid.Shift o to from s) e g = level (mid.Shift o to from s) tt
+        by (mid.Extend to from bits signed) e g = level (mid.Extend to from bits signed) tt
+        by (mid.Select to test x y) e g = level (mid.Select to test x y) tt
+        by (mid.FrameAddress to offset) e g = level (mid.FrameAddress to offset) tt
+        by (mid.Load to address n) e g = level (mid.Load to address n) g
+        by (mid.Store address from n) e g = level (mid.Store address from n) g
+        by (mid.Atomic o width order weak address args results) e g =
+            let same : machine_size i ≡ machine_size (mid.Atomic o width order weak address args results) = ap machine_size e in
+            atomic_placed o width order weak address args results P holds.still places start (λ at from to. holds.operates o width order weak address args results e at from (omega (arith, to, same)))
+        by (mid.Jump n) e g =
             subst (Placed P start) (sym (jump_is n places start))
-            (subst (λ (l : ℕ). P start (jump_to start (places (behind l)))) (sym h.1.1) (jumps h.1.0 h.0), tt)
-        by (mid.Out from) h = placed_each P IsStill still start _ (still_each plain _ (out_calm plain from places start))
-        by mid.Trap h = placed_each P IsStill still start _ (still_each plain _ (trap_calm plain places start))
-        by mid.Ret h = subst (Placed P start) (sym (ret_is places start)) (returns h, tt)
-        by mid.Nop h = placed_each P IsStill still start _ (still_each plain _ (nop_calm plain places start))
-        by _ h = absurd h
+            (subst (λ (l : ℕ). P start (jump_to start (places (behind l)))) (sym g.1.1) (holds.jumps g.1.0 g.0), tt)
+        by (mid.Out from) e g = stills _ (still_each plain _ (out_calm plain from places start))
+        by mid.Trap e g = stills _ (still_each plain _ (trap_calm plain places start))
+        by mid.Ret e g = subst (Placed P start) (sym (ret_is places start)) (holds.returns g, tt)
+        by mid.Nop e g = stills _ (still_each plain _ (nop_calm plain places start))
+        by _ e g = absurd g

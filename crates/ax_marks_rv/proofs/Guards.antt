@@ -1,4 +1,4 @@
--- The code of an atomic instruction without a loop goes forward alone: over a jump, to a trap, or over the trap.
+-- The code of an atomic instruction of the way Inline goes forward alone: over a jump, to a trap, or over the trap.
 use Rattle.std.proofs.Common.{◌≡◌, ℕ, zero, suc, ◌+◌, ◌-◌, ◌%◌, ◌<◌, ◌≤◌, ◌^◌, Bool, true, false, List, [], ◌∷◌, ◌++◌, map, Option, Some, refl, sym, ap, ◌∙◌, subst, arith, append_assoc, slice_get}
 use Rattle.std.specs.Prelude.{if◌then◌else◌, pos}
 use Rattle.std.proofs.lemmas.Bool.{true≢false}
@@ -23,12 +23,14 @@ use Rattle.ax_mid.specs.declared.registers.Virtual.{Virtual}
 use Rattle.ax_mid.specs.WellFormed.{LabelsStandOnce}
 use Rattle.ax_emit_rv.specs.Code.{jump_to}
 use Rattle.ax_emit_rv.proofs.Ends.{jump_goes}
-use Rattle.ax_selected.specs.Operations.{Operation}
+use Rattle.ax_selected.specs.Operations.{Operation, operation_in}
 use Rattle.ax_selected.specs.Registers.{first_label, key, second_label}
 use Rattle.ax_selected.specs.Selected.{acting, selected, silent}
 use Rattle.ax_marks_rv.proofs.Chunks.{chunks}
-use Rattle.ax_marks_rv.proofs.Codes.{IsCalm, IsLast, IsStill, IsUnmarked, branch_before, branch_size, label_size, last_placed, marks, trap_size}
-use Rattle.ax_marks_rv.proofs.Items.{Placed, get_among, laid, placed_at, total, total_both}
+use Rattle.ax_marks_rv.proofs.Codes.{IsCalm, IsLast, IsUnmarked, branch_before, branch_size, label_size, last_placed, marks, trap_size}
+use Rattle.ax_marks_rv.proofs.Expanded.{expanded}
+use Rattle.ax_marks_rv.proofs.Inside.{IsStill}
+use Rattle.ax_marks_rv.proofs.Items.{Each, Placed, get_among, laid, placed_at, placed_each, total, total_both}
 use Rattle.ax_marks_rv.proofs.Laying.{all_code, behind, code, code_lines, lines_total, placed_guard, placed_lines, placed_silent, placed_whole, places, room, size, sizes}
 use Rattle.ax_marks_rv.proofs.Ranges.{Chunk, lines_of}
 use Rattle.ax_marks_rv.proofs.Rows.{bare_guard}
@@ -107,19 +109,31 @@ module _ (program : SourceProgram) (depth : ℕ) (target : Target) (image : Imag
     calm_at : (place : ℕ) (x : RvInstr) → IsCalm false x → StaysAt place x
     calm_at place x h = still_at place x h.0
 
-    whole_at : (at : ℕ) (js : List (MidInst Virtual)) (last : MidInst Virtual) → Levels false js → IsLast false false f last → Placed StaysAt at (laid (code program depth target) sized at (whole f k js last))
-    whole_at at js last h g =
+    -- the code of its operation leads nowhere
+    abbrev pub IsStraight : Option Operation → Type 0
+    IsStraight o = (own : Operation) → o ≡ Some own → Each IsStill (expanded target own.op own.width own.order own.weak)
+
+    whole_at : (at : ℕ) (js : List (MidInst Virtual)) (last : MidInst Virtual) → Levels false js → IsLast false false f last → IsStraight (operation_in last) → Placed StaysAt at (laid (code program depth target) sized at (whole f k js last))
+    unfolding operation_in
+    whole_at at js last h g straight =
         let there = at + total sized (map (silent f k) js) in
         placed_whole program depth target StaysAt false calm_at f k at js last h
-        (last_placed key depth (behind program depth target) target StaysAt false false f still_at (places program depth target) there (λ m goes. absurd (true≢false (sym goes))) (λ goes. absurd (true≢false (sym goes))) last g)
+        (last_placed key depth (behind program depth target) target StaysAt false false f (places program depth target) there last g
+        (record {
+          still = still_at;
+          jumps = λ m goes. absurd (true≢false (sym goes));
+          returns = λ goes. absurd (true≢false (sym goes));
+          operates = λ o width order weak address args results same p from to.
+              placed_each StaysAt IsStill still_at p (expanded target o width order weak) (straight (record { op = o; width = width; order = order; weak = weak }) (ap operation_in same));
+        }))
 
-    pub shape_stays : (o : Option Operation) → Shape f k false false o c.lines → Placed StaysAt start (laid (code program depth target) sized start c.lines)
-    shape_stays o (Whole js last a b d e) = subst (λ (l : List (Line Virtual)). Placed StaysAt start (laid (code program depth target) sized start l)) (sym e) (whole_at start js last a b)
-    shape_stays o (Forked head test ks m js n a b d goes none e) = absurd (true≢false (sym goes))
-    shape_stays o (Guarded js test ks last a b d g e) =
+    pub shape_stays : (o : Option Operation) → IsStraight o → Shape f k false false o c.lines → Placed StaysAt start (laid (code program depth target) sized start c.lines)
+    shape_stays o straight (Whole js last a b d e) = subst (λ (l : List (Line Virtual)). Placed StaysAt start (laid (code program depth target) sized start l)) (sym e) (whole_at start js last a b (subst IsStraight (sym d) straight))
+    shape_stays o straight (Forked head test ks m js n a b d goes none e) = absurd (true≢false (sym goes))
+    shape_stays o straight (Guarded js test ks last a b d g e) =
         subst (λ (l : List (Line Virtual)). Placed StaysAt start (laid (code program depth target) sized start l)) (sym e)
         (placed_lines program depth target StaysAt start own (guard f k test ++ rest) (placed_silent program depth target StaysAt false calm_at f k start js a)
-        (placed_guard program depth target StaysAt false calm_at f k at test rest (record { turn = turns; low = falls; high = rises }) (λ there same. whole_at there ks last b d)))
+        (placed_guard program depth target StaysAt false calm_at f k at test rest (record { turn = turns; low = falls; high = rises }) (λ there same. whole_at there ks last b d (subst IsStraight (sym g) straight))))
       where
         own : List (Line Virtual)
         own = map (silent f k) js

@@ -1,5 +1,7 @@
 pub mod Items
 pub mod Ranges
+pub mod Inside
+pub mod Expanded
 pub mod Codes
 pub mod Shapes
 pub mod Chunks

@@ -1,6 +1,6 @@
 -- The marks of each piece are the row of its instruction.
 use Rattle.std.proofs.Common.{◌≡◌, ℕ, ◌+◌, Bool, true, false, List, [], ◌∷◌, ◌++◌, map, Option, Some, None, refl, sym, ap, ◌∙◌, subst, arith, slice_get}
-use Rattle.std.specs.Prelude.{codes, nat_eq}
+use Rattle.std.specs.Prelude.{◌&&◌, if◌then◌else◌, codes, nat_eq, nat_le}
 use Rattle.std.specs.Cmp.Lexicographic.{pointwise}
 use Rattle.std.specs.List.{list_all}
 use Rattle.std.proofs.lemmas.Bool.{and_parts, false≢true}
@@ -10,19 +10,22 @@ use Rattle.std.proofs.lemmas.Option.{none-some, same_Some}
 use Rattle.ax_words.specs.declared.mark.Mark.{Mark}
 use Rattle.ax_words.specs.declared.mark.Op.{Op}
 use Rattle.ax_words.specs.declared.mark.Op.TheVariants as op
+use Rattle.ax_words.specs.declared.operation.RmwOp.TheVariants as rmw
 use Rattle.ax_words.specs.declared.order.Order.{Order}
 use Rattle.ax_words.specs.declared.order.Order.TheVariants.{Unordered, Monotonic, Acquire, Release, AcqRel, SeqCst}
 use Rattle.ax_words.specs.declared.width.Width.{Width}
-use Rattle.ax_words.specs.declared.width.Width.TheVariants.{W64}
+use Rattle.ax_words.specs.declared.width.Width.TheVariants.{W64, W128}
 use Rattle.ax_words.specs.Orders.{is_legal, merged_order}
 use Rattle.ax_words.specs.Routine.{name_of, routine_named}
 use Rattle.ax_words.specs.Width.{bytes_of}
 use Rattle.ax_target.specs.declared.decision.Way.{Way}
-use Rattle.ax_target.specs.declared.decision.Way.TheVariants.{Inline, CasLoop, PairLoop, Masked, Sized, Generic}
+use Rattle.ax_target.specs.declared.decision.Way.TheVariants.{Inline, PairLoop, Sized, Generic}
 use Rattle.ax_target.specs.declared.target.Target.{Target}
 use Rattle.ax_target.specs.declared.target.Target.TheVariants.{X86, Arm, Rv}
-use Rattle.ax_target.specs.Decisions.{decided, is_rv64}
+use Rattle.ax_target.specs.Decisions.{access_way, decided, is_rv64, native_way}
 use Rattle.ax_target.specs.Rows.{access_of, row_of}
+use Rattle.ax_target.specs.RvRows.{rv_pair}
+use Rattle.ax_target.specs.Targets.{greatest_native}
 use Rattle.ax_module.specs.declared.inst.Inst.{Inst}
 use Rattle.ax_module.specs.declared.inst.Inst.TheVariants as inst
 use Rattle.ax_module.specs.declared.module.Block.{Block}
@@ -31,7 +34,7 @@ use Rattle.ax_module.specs.declared.types.Ty.TheVariants.{I64}
 use Rattle.ax_source_run.specs.SourceInstructions.{is_out, width_of}
 use Rattle.ax_source_run.specs.SourcePointers.{blocks_in, insts_of}
 use Rattle.ax_source_run.specs.SourceState.{SourceProgram}
-use Rattle.ax_agree.specs.Rows.{call_row, counted, row_at}
+use Rattle.ax_agree.specs.Rows.{call_row, counted, is_inline, is_inline_way, row_at}
 use Rattle.ax_rv.specs.declared.instructions.RvInstr.{RvInstr}
 use Rattle.ax_mid.specs.declared.code.Line.{Line}
 use Rattle.ax_mid.specs.declared.instruction.MidInst.{MidInst}
@@ -43,9 +46,12 @@ use Rattle.ax_selected.specs.Direct.{is_direct}
 use Rattle.ax_selected.specs.Operations.{Operation, operation_in, operation_of}
 use Rattle.ax_selected.specs.Registers.{block_label, first_label, key, second_label}
 use Rattle.ax_selected.specs.Selected.{acting, silent}
-use Rattle.ax_llsc.specs.Laws.{InlineCodeHasRow}
-use Rattle.ax_inline_rv.specs.Inline.{is_inline, is_inline_way}
-use Rattle.ax_marks_rv.proofs.Codes.{IsCalm, IsLast, IsUnmarked, expanded, jump_is, last_marks, level_calm, machine, marks_both, marks_in, row_in, unmarked}
+use Rattle.ax_llsc.specs.Codes.{is_coded_way}
+use Rattle.ax_llsc.specs.Laws.{DirectCodeHasRow}
+use Rattle.ax_direct_rv.specs.Direct.{is_coded}
+use Rattle.ax_marks_rv.proofs.Codes.{IsCalm, IsLast, IsUnmarked, jump_is, last_marks, level_calm, machine, marks_both, marks_in, row_in, unmarked}
+use Rattle.ax_marks_rv.proofs.Expanded.{expanded, expanded_still}
+use Rattle.ax_marks_rv.proofs.Inside.{IsStill}
 use Rattle.ax_marks_rv.proofs.Items.{Each, Placed, laid, laid_both, placed_each, total}
 use Rattle.ax_marks_rv.proofs.Laying.{BranchHolds, behind, code, each_mid, placed_branch, placed_guard, placed_label, placed_line, placed_lines, placed_silent, placed_whole, places, size}
 use Rattle.ax_marks_rv.proofs.Shapes.{Forked, Guarded, Levels, Shape, Whole, guard, is_plain, whole}
@@ -156,36 +162,95 @@ has_way target _ own e h = absurd (none-some own e)
 pub way_of : (target : Target) (last : MidInst Virtual) (o : Operation) → operation_in last ≡ Some o → HasWayIn target last → is_legal (access_of o.op) o.order ≡ true
 way_of target last o e h = (has_way target last o e h).legal
 
--- ---- rows of operations without a loop
+-- ---- rows of operations whose way has code
 pub record HasRowsOf (target : Target) : Type 0 where
-  pub row : (o : Op) (width : Width) (order : Order) (weak : Bool) → decided target o width (bytes_of width) ≡ Inline → is_legal (access_of o) order ≡ true → marks_in (expanded target o width order weak) ≡ row_of target o order width Inline
-  pub counts : (o : Op) (order : Order) (width : Width) → row_of target o order width Inline ≡ row_of target o (counted order) width Inline
-  pub exchange : (order : Order) (width : Width) → row_of target op.Cmpxchg order width Inline ≡ []
+  pub row :
+      (o : Op) (width : Width) (order : Order) (weak : Bool) → is_coded_way (decided target o width (bytes_of width)) ≡ true → is_legal (access_of o) order ≡ true
+      → marks_in (expanded target o width order weak) ≡ row_of target o order width (decided target o width (bytes_of width))
+  pub counts : (o : Op) (order : Order) (width : Width) (way : Way) → is_coded_way way ≡ true → row_of target o order width way ≡ row_of target o (counted order) width way
+  -- the code of the way Inline leads nowhere
+  pub straight : (o : Op) (width : Width) (order : Order) (weak : Bool) (align : ℕ) → is_inline_way (decided target o width align) ≡ true → Each IsStill (expanded target o width order weak)
 
-rv_counts : (zabha zacas : Bool) (o : Op) (order : Order) (width : Width) → row_of (Rv zabha zacas) o order width Inline ≡ row_of (Rv zabha zacas) o (counted order) width Inline
-rv_counts zabha zacas op.Load Unordered width = refl
-rv_counts zabha zacas op.Store Unordered width = refl
-rv_counts zabha zacas op.Cmpxchg Unordered width = refl
-rv_counts zabha zacas (op.Rmw o) Unordered width = refl
-rv_counts zabha zacas op.Fence Unordered width = refl
-rv_counts zabha zacas o Monotonic width = refl
-rv_counts zabha zacas o Acquire width = refl
-rv_counts zabha zacas o Release width = refl
-rv_counts zabha zacas o AcqRel width = refl
-rv_counts zabha zacas o SeqCst width = refl
+inline_counts : (zabha zacas : Bool) (o : Op) (order : Order) (width : Width) → row_of (Rv zabha zacas) o order width Inline ≡ row_of (Rv zabha zacas) o (counted order) width Inline
+inline_counts zabha zacas op.Load Unordered width = refl
+inline_counts zabha zacas op.Store Unordered width = refl
+inline_counts zabha zacas op.Cmpxchg Unordered width = refl
+inline_counts zabha zacas (op.Rmw o) Unordered width = refl
+inline_counts zabha zacas op.Fence Unordered width = refl
+inline_counts zabha zacas o Monotonic width = refl
+inline_counts zabha zacas o Acquire width = refl
+inline_counts zabha zacas o Release width = refl
+inline_counts zabha zacas o AcqRel width = refl
+inline_counts zabha zacas o SeqCst width = refl
 
-pub rv_has_rows : InlineCodeHasRow → (target : Target) → is_rv64 target ≡ true → HasRowsOf target
-rv_has_rows law (Rv zabha zacas) h = record { row = λ o width order weak way legal. law zabha zacas o width order weak 0 way legal; counts = rv_counts zabha zacas; exchange = λ order width. refl }
+pair_counts : (order : Order) (bytes : ℕ) → rv_pair order bytes ≡ rv_pair (counted order) bytes
+pair_counts Unordered bytes = refl
+pair_counts _ bytes = refl
+
+rv_counts : (zabha zacas : Bool) (o : Op) (order : Order) (width : Width) (way : Way) → is_coded_way way ≡ true → row_of (Rv zabha zacas) o order width way ≡ row_of (Rv zabha zacas) o (counted order) width way
+rv_counts zabha zacas o order width Inline h = inline_counts zabha zacas o order width
+rv_counts zabha zacas o order width PairLoop h = pair_counts order (bytes_of width)
+rv_counts zabha zacas o order width _ h = absurd (false≢true h)
+
+-- a native access of another way is not of the way Inline, at any alignment
+other_way : (a b : Bool) (w : Way) → (a ≡ true → is_inline_way w ≡ false) → is_inline_way (if a && b then w else if b then Sized else Generic) ≡ false
+other_way true true w h = h refl
+other_way true false w h = refl
+other_way false true w h = refl
+other_way false false w h = refl
+
+loop_way : (zabha zacas : Bool) (o : Op) (width : Width) (align : ℕ) → (nat_le (bytes_of width) 8 ≡ true → is_inline_way (native_way (Rv zabha zacas) o (bytes_of width)) ≡ false) → is_inline_way (access_way (Rv zabha zacas) o (bytes_of width) align) ≡ false
+loop_way zabha zacas o width align h = other_way (nat_le (bytes_of width) 8) (nat_le (bytes_of width) align) (native_way (Rv zabha zacas) o (bytes_of width)) h
+
+exchange_way : (zabha zacas : Bool) (width : Width) (align : ℕ) → is_inline_way (decided (Rv zabha zacas) op.Cmpxchg width align) ≡ false
+exchange_way zabha zacas W128 align = loop_way zabha zacas op.Cmpxchg W128 align (λ e. absurd (false≢true e))
+exchange_way zabha zacas width align = loop_way zabha zacas op.Cmpxchg width align (λ e. refl)
+
+nand_way : (zabha zacas : Bool) (width : Width) (align : ℕ) → is_inline_way (decided (Rv zabha zacas) (op.Rmw rmw.Nand) width align) ≡ false
+nand_way zabha zacas W128 align = loop_way zabha zacas (op.Rmw rmw.Nand) W128 align (λ e. absurd (false≢true e))
+nand_way zabha zacas width align = loop_way zabha zacas (op.Rmw rmw.Nand) width align (λ e. refl)
+
+rv_straight : (zabha zacas : Bool) (o : Op) (width : Width) (order : Order) (weak : Bool) (align : ℕ) → is_inline_way (decided (Rv zabha zacas) o width align) ≡ true → Each IsStill (expanded (Rv zabha zacas) o width order weak)
+rv_straight zabha zacas op.Cmpxchg width order weak align h = absurd (false≢true (sym (exchange_way zabha zacas width align) ∙ h))
+rv_straight zabha zacas (op.Rmw rmw.Nand) width order weak align h = absurd (false≢true (sym (nand_way zabha zacas width align) ∙ h))
+rv_straight zabha zacas o width order weak align h = expanded_still (Rv zabha zacas) width order weak o refl
+
+pub rv_has_rows : DirectCodeHasRow → (target : Target) → is_rv64 target ≡ true → HasRowsOf target
+rv_has_rows law (Rv zabha zacas) h = record { row = λ o width order weak way legal. law zabha zacas o width order weak 0 way legal; counts = rv_counts zabha zacas; straight = rv_straight zabha zacas }
 rv_has_rows law (X86 cx16) h = absurd (false≢true h)
 rv_has_rows law (Arm lse) h = absurd (false≢true h)
 
-way_is : (w : Way) → is_inline_way w ≡ true → w ≡ Inline
-way_is Inline h = refl
-way_is CasLoop h = absurd (false≢true h)
-way_is PairLoop h = absurd (false≢true h)
-way_is Masked h = absurd (false≢true h)
-way_is Sized h = absurd (false≢true h)
-way_is Generic h = absurd (false≢true h)
+-- ---- a way with code at some alignment is the way at the size
+le_self : (n : ℕ) → nat_le n n ≡ true
+le_self n = grind (arith, nat_tests)
+
+way_if : (a b c : Bool) (w : Way) → is_coded_way (if a && b then w else if b then Sized else Generic) ≡ true → c ≡ true → (if a && c then w else if c then Sized else Generic) ≡ (if a && b then w else if b then Sized else Generic)
+way_if a b false w h e = absurd (false≢true e)
+way_if true true true w h e = refl
+way_if true false true w h e = absurd (false≢true h)
+way_if false true true w h e = absurd (false≢true h)
+way_if false false true w h e = absurd (false≢true h)
+
+access_at_size : (target : Target) (o : Op) (n align : ℕ) → is_coded_way (access_way target o n align) ≡ true → access_way target o n n ≡ access_way target o n align
+access_at_size target o n align h = way_if (nat_le n (greatest_native target)) (nat_le n align) (nat_le n n) (native_way target o n) h (le_self n)
+
+way_at_size : (target : Target) (o : Op) (width : Width) (align : ℕ) → is_coded_way (decided target o width align) ≡ true → decided target o width (bytes_of width) ≡ decided target o width align
+way_at_size target op.Fence width align h = refl
+way_at_size target op.Load width align h = access_at_size target op.Load (bytes_of width) align h
+way_at_size target op.Store width align h = access_at_size target op.Store (bytes_of width) align h
+way_at_size target op.Cmpxchg width align h = access_at_size target op.Cmpxchg (bytes_of width) align h
+way_at_size target (op.Rmw o) width align h = access_at_size target (op.Rmw o) (bytes_of width) align h
+
+-- ---- orders that count as others merge alike
+merged_counts : (success failure : Order) → counted (merged_order success failure) ≡ counted (merged_order (counted success) (counted failure))
+merged_counts Unordered Unordered = refl
+merged_counts Unordered Monotonic = refl
+merged_counts Unordered Acquire = refl
+merged_counts Unordered Release = refl
+merged_counts Unordered AcqRel = refl
+merged_counts Unordered SeqCst = refl
+merged_counts _ Unordered = refl
+merged_counts _ _ = refl
 
 -- ---- calls
 same_name : (xs ys : List ℕ) → pointwise nat_eq xs ys ≡ true → xs ≡ ys
@@ -205,47 +270,65 @@ out_row : (name : List ℕ) → is_out name ≡ true → call_row (routine_named
 out_row name h = ap (λ (n : List ℕ). call_row (routine_named n)) (same_name name (codes "out") h) ∙ no_routine
 
 -- ---- THE ROW OF EACH INSTRUCTION
--- its operation has a way without a loop and a legal order
+-- its operation has a way with code and a legal order
 pub record IsReady (target : Target) (i : Inst) : Type 0 where
-  pub inline : is_inline target i ≡ true
+  pub coded : is_coded target i ≡ true
   pub direct : is_direct target i ≡ true
-  pub way : (o : Operation) → operation_of i ≡ Some o → decided target o.op o.width (bytes_of o.width) ≡ Inline
   pub legal : (o : Operation) → operation_of i ≡ Some o → is_legal (access_of o.op) o.order ≡ true
 
 module _ (target : Target) (rows : HasRowsOf target) where
-  counted_row : (o : Op) (width : Width) (order : Order) (weak : Bool) (align : ℕ) → decided target o width (bytes_of width) ≡ Inline → is_legal (access_of o) order ≡ true → is_inline_way (decided target o width align) ≡ true
+  counted_row : (o : Op) (width : Width) (order : Order) (weak : Bool) (align : ℕ) → is_legal (access_of o) order ≡ true → is_coded_way (decided target o width align) ≡ true
       → marks_in (expanded target o width order weak) ≡ row_of target o (counted order) width (decided target o width align)
-  counted_row o width order weak align way legal here =
-      rows.row o width order weak way legal ∙ (rows.counts o order width ∙ ap (row_of target o (counted order) width) (sym (way_is (decided target o width align) here)))
+  counted_row o width order weak align legal coded =
+      let same = way_at_size target o width align coded in
+      rows.row o width order weak (ap is_coded_way same ∙ coded) legal ∙ (ap (row_of target o order width) same ∙ rows.counts o order width (decided target o width align) coded)
 
-  exchange_row : (width : Width) (order other : Order) (weak : Bool) (align : ℕ) → decided target op.Cmpxchg width (bytes_of width) ≡ Inline → is_legal (access_of op.Cmpxchg) order ≡ true → is_inline_way (decided target op.Cmpxchg width align) ≡ true
-      → marks_in (expanded target op.Cmpxchg width order weak) ≡ row_of target op.Cmpxchg other width (decided target op.Cmpxchg width align)
-  exchange_row width order other weak align way legal here =
-      rows.row op.Cmpxchg width order weak way legal
-      ∙ (rows.exchange order width ∙ (sym (rows.exchange other width) ∙ ap (row_of target op.Cmpxchg other width) (sym (way_is (decided target op.Cmpxchg width align) here))))
+  exchange_row : (width : Width) (success failure : Order) (weak : Bool) (align : ℕ) → is_legal (access_of op.Cmpxchg) (merged_order success failure) ≡ true → is_coded_way (decided target op.Cmpxchg width align) ≡ true
+      → marks_in (expanded target op.Cmpxchg width (merged_order success failure) weak) ≡ row_of target op.Cmpxchg (merged_order (counted success) (counted failure)) width (decided target op.Cmpxchg width align)
+  exchange_row width success failure weak align legal coded =
+      let way = decided target op.Cmpxchg width align in
+      counted_row op.Cmpxchg width (merged_order success failure) weak align legal coded
+      ∙ (ap (λ (order : Order). row_of target op.Cmpxchg order width way) (merged_counts success failure)
+      ∙ sym (rows.counts op.Cmpxchg (merged_order (counted success) (counted failure)) width way coded))
 
   pub inst_row : (i : Inst) → IsReady target i → (marks : List Mark) → row_at target i ≡ Some marks → row_of_op target (operation_of i) ≡ marks
-  unfolding row_at operation_of is_inline is_direct
+  unfolding row_at operation_of is_coded is_direct
   inst_row (inst.LoadAtomic t a order align) h marks e =
       let o : Operation = record { op = op.Load; width = width_of t; order = order; weak = false } in
-      counted_row op.Load (width_of t) order false align (h.way o refl) (h.legal o refl) h.inline ∙ same_Some _ marks e
+      counted_row op.Load (width_of t) order false align (h.legal o refl) h.coded ∙ same_Some _ marks e
   inst_row (inst.StoreAtomic t v a order align) h marks e =
       let o : Operation = record { op = op.Store; width = width_of t; order = order; weak = false } in
-      counted_row op.Store (width_of t) order false align (h.way o refl) (h.legal o refl) h.inline ∙ same_Some _ marks e
+      counted_row op.Store (width_of t) order false align (h.legal o refl) h.coded ∙ same_Some _ marks e
   inst_row (inst.Cmpxchg weak a t v u w success failure align) h marks e =
       let o : Operation = record { op = op.Cmpxchg; width = width_of t; order = merged_order success failure; weak = weak } in
-      exchange_row (width_of t) (merged_order success failure) (merged_order (counted success) (counted failure)) weak align (h.way o refl) (h.legal o refl) h.inline ∙ same_Some _ marks e
+      exchange_row (width_of t) success failure weak align (h.legal o refl) h.coded ∙ same_Some _ marks e
   inst_row (inst.Rmw r a t v order align) h marks e =
       let o : Operation = record { op = op.Rmw r; width = width_of t; order = order; weak = false } in
-      counted_row (op.Rmw r) (width_of t) order false align (h.way o refl) (h.legal o refl) h.inline ∙ same_Some _ marks e
+      counted_row (op.Rmw r) (width_of t) order false align (h.legal o refl) h.coded ∙ same_Some _ marks e
   inst_row (inst.Fence false order) h marks e =
       let o : Operation = record { op = op.Fence; width = width_of I64; order = order; weak = false } in
-      rows.row op.Fence W64 order false (h.way o refl) (h.legal o refl) ∙ same_Some _ marks e
+      rows.row op.Fence W64 order false refl (h.legal o refl) ∙ same_Some _ marks e
   inst_row (inst.Fence true order) h marks e = same_Some _ marks e
   inst_row (inst.Call result name args) h marks e = sym (out_row name h.direct) ∙ same_Some _ marks e
   inst_row (inst.Load t a align) h marks e = absurd (none-some marks e)
   inst_row (inst.Store t v a align) h marks e = absurd (none-some marks e)
   inst_row _ h marks e = same_Some _ marks e
+
+  -- the code of the operation of an instruction of the way Inline, or of a fence, leads nowhere
+  abbrev Straight : Operation → Type 0
+  Straight o = Each IsStill (expanded target o.op o.width o.order o.weak)
+
+  pub inline_straight : (i : Inst) → is_inline target i ≡ true → (o : Operation) → operation_of i ≡ Some o → Straight o
+  unfolding is_inline operation_of
+  inline_straight (inst.LoadAtomic t a order align) h o e = subst Straight (same_Some (record { op = op.Load; width = width_of t; order = order; weak = false }) o e) (rows.straight op.Load (width_of t) order false align h)
+  inline_straight (inst.StoreAtomic t v a order align) h o e = subst Straight (same_Some (record { op = op.Store; width = width_of t; order = order; weak = false }) o e) (rows.straight op.Store (width_of t) order false align h)
+  inline_straight (inst.Cmpxchg weak a t v u w success failure align) h o e =
+      let order = merged_order success failure in
+      subst Straight (same_Some (record { op = op.Cmpxchg; width = width_of t; order = order; weak = weak }) o e) (rows.straight op.Cmpxchg (width_of t) order weak align h)
+  inline_straight (inst.Rmw r a t v order align) h o e = subst Straight (same_Some (record { op = op.Rmw r; width = width_of t; order = order; weak = false }) o e) (rows.straight (op.Rmw r) (width_of t) order false align h)
+  inline_straight (inst.Fence false order) h o e = subst Straight (same_Some (record { op = op.Fence; width = width_of I64; order = order; weak = false }) o e) (rows.straight op.Fence (width_of I64) order false 0 refl)
+  inline_straight (inst.Fence true order) h o e = absurd (none-some o e)
+  inline_straight _ h o e = absurd (false≢true h)
 
 pub plain_row : (target : Target) (i : Inst) → is_plain i ≡ true → row_at target i ≡ None
 unfolding row_at

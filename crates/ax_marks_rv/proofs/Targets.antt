@@ -1,6 +1,6 @@
 -- Where jumps lead: to the beginning of a piece, or into their own piece.
-use Rattle.std.proofs.Common.{◌≡◌, ℕ, zero, suc, ◌+◌, ◌%◌, ◌<◌, ◌≤◌, ◌^◌, ◌⊎◌, inl, inr, Bool, true, false, List, [], ◌∷◌, ◌++◌, map, Option, Some, length, refl, sym, ap, ◌∙◌, subst, arith, append_assoc, slice_get}
-use Rattle.std.specs.Prelude.{if◌then◌else◌, pos}
+use Rattle.std.proofs.Common.{◌≡◌, ℕ, zero, suc, ◌+◌, ◌<◌, ◌≤◌, ◌^◌, ◌⊎◌, inl, inr, Bool, true, false, List, [], ◌∷◌, ◌++◌, map, Option, Some, length, refl, sym, ap, ◌∙◌, subst, arith, append_assoc, slice_get}
+use Rattle.std.specs.Prelude.{pos}
 use Rattle.std.proofs.lemmas.Bool.{true≢false}
 use Rattle.std.proofs.lemmas.List.{append-nil, length-append}
 use Rattle.std.proofs.lemmas.Option.{none-some}
@@ -8,15 +8,12 @@ use Rattle.ax_module.specs.Kinds.{is_phi}
 use Rattle.ax_source_run.specs.SourceState.{SourceProgram}
 use Rattle.ax_target.specs.declared.target.Target.{Target}
 use Rattle.ax_isa.specs.declared.effects.Effect.{Effect}
-use Rattle.ax_isa.specs.declared.effects.Effect.TheVariants as effect
-use Rattle.ax_isa.specs.Numbers.{displaced}
 use Rattle.ax_isa.specs.Processor.{Processor}
 use Rattle.ax_agree.specs.Rows.{LeadsTo}
 use Rattle.ax_rv.specs.declared.instructions.Condition.TheVariants as condition
 use Rattle.ax_rv.specs.declared.instructions.RvInstr.{RvInstr}
 use Rattle.ax_rv.specs.declared.instructions.RvInstr.TheVariants as rv
-use Rattle.ax_rv.specs.Arithmetic.{holds}
-use Rattle.ax_rv.specs.Instructions.{effect_of, read, rv_kind}
+use Rattle.ax_rv.specs.Instructions.{effect_of, rv_kind}
 use Rattle.ax_mid.specs.declared.code.Line.{Line}
 use Rattle.ax_mid.specs.declared.instruction.MidInst.{MidInst}
 use Rattle.ax_mid.specs.declared.instruction.MidInst.TheVariants as mid
@@ -29,7 +26,9 @@ use Rattle.ax_selected.specs.Operations.{Operation, operation_of}
 use Rattle.ax_selected.specs.Registers.{block_label, first_label, key, second_label}
 use Rattle.ax_selected.specs.Selected.{acting, label_line, piece, selected, silent}
 use Rattle.ax_marks_rv.proofs.Chunks.{IsChunk, OfInst, OfLabel, chunks, chunks_are, label_chunk}
-use Rattle.ax_marks_rv.proofs.Codes.{IsCalm, IsLast, IsLevel, IsStill, branch_before, branch_size, label_size, last_placed, level_calm, machine, machine_size}
+use Rattle.ax_marks_rv.proofs.Codes.{IsCalm, IsLast, IsLevel, branch_before, branch_size, label_size, last_placed, level_calm, machine, machine_size}
+use Rattle.ax_marks_rv.proofs.Expanded.{expanded, expanded_closed}
+use Rattle.ax_marks_rv.proofs.Inside.{IsStill, inside_leads, is_closed, is_inside, placed_closed}
 use Rattle.ax_marks_rv.proofs.Items.{Each, Placed, each_at, each_both, find, get_right, laid, placed_each, total, total_both}
 use Rattle.ax_marks_rv.proofs.Laying.{BranchHolds, behind, chunk_is, code, code_lines, labels_none, lines_total, placed_branch, placed_guard, placed_label, placed_line, placed_lines, placed_silent, placed_whole, places, room, size, tagged_line}
 use Rattle.ax_marks_rv.proofs.Places.{LabelAt, behind_is, find_label, place_both, place_first}
@@ -98,16 +97,6 @@ still_leads (rv.Call routine place) c q h l = true≢false h
 still_leads rv.Ret c q h l = l
 still_leads (rv.Branch test a b d) c q h l = true≢false h
 still_leads _ c q h l = l
-
-turn_leads : (place : ℕ) (c : Processor) (q : ℕ) → c.place ≡ place → place < 2 ^ 32 → LeadsTo (effect_of (rv.Branch condition.NotEqual 5 0 (pos 2)) c) q → q ≡ place + 2
-turn_leads place c q at low l = by (holds condition.NotEqual (read 5 c) (read 0 c)) l
-  where
-    by : (t : Bool) → LeadsTo (if t then effect.Jump (displaced c.place (pos 2)) else effect.Nop) q → q ≡ place + 2
-    by true e =
-        let there : (c.place + 2) % 2 ^ 64 ≡ q = e in
-        let here : (c.place + 2) % 2 ^ 64 ≡ c.place + 2 = omega (arith, at, low) in
-        omega (arith, there, here, at)
-    by false e = absurd e
 
 jump_leads : (place t : ℕ) (c : Processor) (q : ℕ) → c.place ≡ place → place < 2 ^ 32 → t < 2 ^ 32 → LeadsTo (effect_of (jump_to place t) c) q → t ≡ q
 jump_leads place t c q at low high l = subst (λ (e : Effect). LeadsTo e q) (jump_goes place t c at low high) l
@@ -255,15 +244,15 @@ module _ (program : SourceProgram) (depth : ℕ) (target : Target) where
         inr (omega (arith, p), omega (arith, p, long))
 
     module _ (few : 1 + total wide (chunks program) < 2 ^ 32) where
+      low_end : start + wide c < 2 ^ 32
+      low_end = let e = ap (λ (cs : List (Chunk Virtual)). total wide cs) is ∙ total_both wide before (c ∷ after) in omega (arith, few, e)
+
       low_aim : (q : ℕ) → Aims q → q < 2 ^ 32
       low_aim q (inl b) =
           let e = ap (λ (cs : List (Chunk Virtual)). total wide cs) b.is ∙ total_both wide b.before b.after in
           let p = b.place in
           omega (arith, few, e, p)
-      low_aim q (inr r) =
-          let e = ap (λ (cs : List (Chunk Virtual)). total wide cs) is ∙ total_both wide before (c ∷ after) in
-          let p = r.1 in
-          omega (arith, few, e, p)
+      low_aim q (inr r) = let p = r.1 in omega (arith, low_end, p)
 
       -- an instruction at a place leads there alone
       abbrev pub Leads : ℕ → RvInstr → Type 0
@@ -272,8 +261,21 @@ module _ (program : SourceProgram) (depth : ℕ) (target : Target) where
       jump_aims : (place n : ℕ) → Aims (aim n) → Leads place (jump_to place (aim n))
       jump_aims place n h low r at q l = subst Aims (jump_leads place (aim n) r q at low (low_aim (aim n) h) l) h
 
-      turn_aims : (place : ℕ) → start ≤ place + 2 → place + 2 ≤ start + wide c → Leads place (rv.Branch condition.NotEqual 5 0 (pos 2))
-      turn_aims place a b low r at q l = let e = turn_leads place r q at low l in inr (omega (arith, e, a), omega (arith, e, b))
+      -- code that leads into itself, or right behind it
+      inside_aims : (at n : ℕ) → start ≤ at → at + n ≤ start + wide c → (j : ℕ) (x : RvInstr) → j ≤ n → is_inside n j x ≡ true → Leads (at + j) x
+      inside_aims at n low high j x less inside small r here q l =
+          let there = inside_leads at n (omega (arith, low_end, high)) j x r q here less inside l in
+          let first = there.0 in
+          let last = there.1 in
+          inr (omega (arith, low, first), omega (arith, high, last))
+
+      closed_aims : (at : ℕ) (own : List RvInstr) → is_closed own ≡ true → start ≤ at → at + length own ≤ start + wide c → Placed Leads at own
+      closed_aims at own h low high = placed_closed Leads at own h (inside_aims at (length own) low high)
+
+      turn_aims : (place : ℕ) → start ≤ place → place + 2 ≤ start + wide c → Leads place (rv.Branch condition.NotEqual 5 0 (pos 2))
+      turn_aims place low high =
+          let same : place + 0 ≡ place = omega arith in
+          subst (λ (p : ℕ). Leads p (rv.Branch condition.NotEqual 5 0 (pos 2))) same (inside_aims place 2 low high 0 (rv.Branch condition.NotEqual 5 0 (pos 2)) (omega arith) refl)
 
       still_aims : (place : ℕ) (x : RvInstr) → IsStill x → Leads place x
       still_aims place x h low r at q l = absurd (still_leads x r q h l)
@@ -285,12 +287,21 @@ module _ (program : SourceProgram) (depth : ℕ) (target : Target) where
       ret_aims place low r at q l = absurd l
 
       module _ (f k : ℕ) (plain leading : Bool) where
-        last_aims : (at : ℕ) (last : MidInst Virtual) → IsLast plain leading f last → Placed Leads at (machine key depth (behind program depth target) target last (places program depth target) at)
-        last_aims at last h =
-            last_placed key depth (behind program depth target) target Leads plain leading f still_aims (places program depth target) at (λ m goes. jump_aims at (block_label f m) (inl (block_target f m))) (λ goes. ret_aims at) last h
+        last_aims : (at : ℕ) (last : MidInst Virtual) → start ≤ at → at + machine_size key depth (behind program depth target) target last ≤ start + wide c → IsLast plain leading f last
+            → Placed Leads at (machine key depth (behind program depth target) target last (places program depth target) at)
+        last_aims at last low high h =
+            last_placed key depth (behind program depth target) target Leads plain leading f (places program depth target) at last h
+            (record {
+              still = still_aims;
+              jumps = λ m goes. jump_aims at (block_label f m) (inl (block_target f m));
+              returns = λ goes. ret_aims at;
+              operates = λ o width order weak address args results same p from to. closed_aims p (expanded target o width order weak) (expanded_closed target o width order weak) (omega (arith, low, from)) (omega (arith, to, high));
+            })
 
-        whole_aims : (at : ℕ) (is : List (MidInst Virtual)) (last : MidInst Virtual) → Levels plain is → IsLast plain leading f last → Placed Leads at (laid (code program depth target) sized at (whole f k is last))
-        whole_aims at is last h g = placed_whole program depth target Leads plain (calm_aims plain) f k at is last h (last_aims (at + total sized (map (silent f k) is)) last g)
+        whole_aims : (at : ℕ) (is : List (MidInst Virtual)) (last : MidInst Virtual) → start ≤ at → at + total sized (whole f k is last) ≤ start + wide c → Levels plain is → IsLast plain leading f last → Placed Leads at (laid (code program depth target) sized at (whole f k is last))
+        whole_aims at is last low high h g =
+            let both = total_both sized (map (silent f k) is) (acting f k last ∷ []) in
+            placed_whole program depth target Leads plain (calm_aims plain) f k at is last h (last_aims (at + total sized (map (silent f k) is)) last (omega (arith, low)) (omega (arith, high, both)) g)
 
         -- a branch whose labels stand in the piece
         branch_aims : (at : ℕ) (test : Virtual) (a b : ℕ) → start ≤ at → at + sized (silent f k (mid.Branch test a b)) ≤ start + wide c → Aims (aim a) → Aims (aim b) → BranchHolds program depth target Leads plain (calm_aims plain) f k at test a b
@@ -300,7 +311,9 @@ module _ (program : SourceProgram) (depth : ℕ) (target : Target) where
             record { turn = turn_aims t (omega (arith, low)) (omega (arith, high, n)); low = jump_aims (t + 1) b hb; high = jump_aims (t + 2) a ha }
 
         pub shape_aims : (o : Option Operation) → Shape f k plain leading o c.lines → Placed Leads start (laid (code program depth target) sized start c.lines)
-        shape_aims o (Whole is last a b d e) = subst (λ (l : List (Line Virtual)). Placed Leads start (laid (code program depth target) sized start l)) (sym e) (whole_aims start is last a b)
+        shape_aims o (Whole is last a b d e) =
+            let long = ap (λ (l : List (Line Virtual)). total sized l) e in
+            subst (λ (l : List (Line Virtual)). Placed Leads start (laid (code program depth target) sized start l)) (sym e) (whole_aims start is last (omega arith) (omega (arith, long)) a b)
         shape_aims o (Guarded js test is last a b d g e) =
             let own = map (silent f k) js in
             let turn = silent f k (mid.Branch test (second_label f k) (first_label f k)) in
@@ -310,6 +323,7 @@ module _ (program : SourceProgram) (depth : ℕ) (target : Target) where
             let rest = whole f k is last in
             let at = start + total sized own in
             let long = ap (λ (l : List (Line Virtual)). total sized l) e ∙ total_both sized own (guard f k test ++ rest) in
+            let parts = total_both sized (guard f k test) rest in
             let at_first : c.lines ≡ (own ++ (turn ∷ [])) ++ (first ∷ trap ∷ second ∷ rest) = e ∙ sym (append_assoc own (turn ∷ []) (first ∷ trap ∷ second ∷ rest)) in
             let at_second : c.lines ≡ (own ++ (turn ∷ first ∷ trap ∷ [])) ++ (second ∷ rest) = e ∙ sym (append_assoc own (turn ∷ first ∷ trap ∷ []) (second ∷ rest)) in
             let ha = own_aims (second_label f k) (own ++ (turn ∷ first ∷ trap ∷ [])) second rest at_second refl in
@@ -317,7 +331,7 @@ module _ (program : SourceProgram) (depth : ℕ) (target : Target) where
             subst (λ (l : List (Line Virtual)). Placed Leads start (laid (code program depth target) sized start l)) (sym e)
             (placed_lines program depth target Leads start own (guard f k test ++ rest) (placed_silent program depth target Leads plain (calm_aims plain) f k start js a)
             (placed_guard program depth target Leads plain (calm_aims plain) f k at test rest (branch_aims at test (second_label f k) (first_label f k) (omega arith) (omega (arith, long)) ha hb)
-            (λ there same. whole_aims there is last b d)))
+            (λ there same. whole_aims there is last (omega (arith, same)) (omega (arith, same, long, parts)) b d)))
         shape_aims o (Forked head test is m js n a b d g none e) =
             let turn = silent f k (mid.Branch test (first_label f k) (second_label f k)) in
             let first = silent f k (mid.Label (first_label f k)) in
@@ -329,6 +343,7 @@ module _ (program : SourceProgram) (depth : ℕ) (target : Target) where
             let there = next + sized first in
             let far = there + total sized one in
             let long = ap (λ (l : List (Line Virtual)). total sized l) e in
+            let parts = total_both sized one (second ∷ two) in
             let at_second : c.lines ≡ (silent f k head ∷ turn ∷ first ∷ one) ++ (second ∷ two) = e in
             let ha = own_aims (first_label f k) (silent f k head ∷ turn ∷ []) first (one ++ (second ∷ two)) e refl in
             let hb = own_aims (second_label f k) (silent f k head ∷ turn ∷ first ∷ one) second two at_second refl in
@@ -336,6 +351,6 @@ module _ (program : SourceProgram) (depth : ℕ) (target : Target) where
             (placed_line program depth target Leads start (silent f k head) (turn ∷ first ∷ one ++ (second ∷ two)) (placed_each Leads (IsCalm plain) (calm_aims plain) start (machine key depth (behind program depth target) target head (places program depth target) start) (level_calm key depth (behind program depth target) target plain head a (places program depth target) start))
             (placed_line program depth target Leads at turn (first ∷ one ++ (second ∷ two)) (placed_branch program depth target Leads plain (calm_aims plain) f k at test (first_label f k) (second_label f k) (branch_aims at test (first_label f k) (second_label f k) (omega arith) (omega (arith, long)) ha hb))
             (placed_line program depth target Leads next first (one ++ (second ∷ two)) (placed_label program depth target Leads plain (calm_aims plain) f k (first_label f k) next)
-            (placed_lines program depth target Leads there one (second ∷ two) (whole_aims there is (mid.Jump (block_label f m)) b (g, (m, refl)))
+            (placed_lines program depth target Leads there one (second ∷ two) (whole_aims there is (mid.Jump (block_label f m)) (omega arith) (omega (arith, long, parts)) b (g, (m, refl)))
             (placed_line program depth target Leads far second two (placed_label program depth target Leads plain (calm_aims plain) f k (second_label f k) far)
-            (whole_aims (far + sized second) js (mid.Jump (block_label f n)) d (g, (n, refl))))))))
+            (whole_aims (far + sized second) js (mid.Jump (block_label f n)) (omega arith) (omega (arith, long, parts)) d (g, (n, refl))))))))

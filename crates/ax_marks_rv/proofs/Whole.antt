@@ -32,12 +32,10 @@ use Rattle.ax_selected.specs.Direct.{is_direct, needs_no_routine}
 use Rattle.ax_selected.specs.Formed.{IsFormed, SelectedCodeIsFormed}
 use Rattle.ax_selected.specs.Operations.{Operation, operation_of}
 use Rattle.ax_selected.specs.Selected.{selected}
-use Rattle.ax_llsc.specs.Laws.{InlineCodeHasRow}
+use Rattle.ax_llsc.specs.Laws.{DirectCodeHasRow}
 use Rattle.ax_image_rv.specs.Image.{frame_depth, rv_places, rv_program}
-use Rattle.ax_inline_rv.specs.Inline as inlined
-use Rattle.ax_inline_rv.specs.Inline.{inline_draft, inline_expansions, inline_image, is_built, is_inline_module}
-use Rattle.ax_inline_rv.proofs.Sites.{inline_at}
-use Rattle.ax_marks_rv.specs.Marked.{InlineImagesHaveRows}
+use Rattle.ax_direct_rv.specs.Direct.{direct_draft, direct_expansions, direct_image, is_coded, is_direct_module}
+use Rattle.ax_marks_rv.specs.Marked.{DirectImagesHaveRows}
 use Rattle.ax_marks_rv.proofs.Chunks.{IsChunk, OfInst, OfLabel, chunks, chunks_are, chunks_rise, has_chunk, piece_chunk, site_of}
 use Rattle.ax_marks_rv.proofs.Codes.{marks_in}
 use Rattle.ax_marks_rv.proofs.Guards.{StaysAt, at_lines, shape_stays}
@@ -45,13 +43,13 @@ use Rattle.ax_marks_rv.proofs.Items.{Each, apart, boundary, laid, length_laid, p
 use Rattle.ax_marks_rv.proofs.Laying.{PieceAt, all_code, all_long, chunk_is, code, code_lines, label_empty, labels_none, phi_empty, piece_at, room, shape_some, size, sizes}
 use Rattle.ax_marks_rv.proofs.Places.{codes_are, draft_code}
 use Rattle.ax_marks_rv.proofs.Ranges.{Chunk, ChunkOf, chunk_of, chunk_ranges, lines_of, range_at, range_of_chunk, ranges_are}
-use Rattle.ax_marks_rv.proofs.Rows.{HasRowsOf, IsReady, each_passes, inst_row, plain_row, rv_has_rows, shape_last, shape_marks, way_of}
+use Rattle.ax_marks_rv.proofs.Rows.{HasRowsOf, IsReady, each_passes, inline_straight, inst_row, plain_row, rv_has_rows, shape_last, shape_marks, way_of}
 use Rattle.ax_marks_rv.proofs.Shapes.{Shape, is_leading, is_plain, piece_shape}
 use Rattle.ax_marks_rv.proofs.Targets.{Aims, Leads, round, shape_aims}
 
 -- the laws on which the rows stand
 pub record Laws : Type 0 where
-  pub rows : InlineCodeHasRow
+  pub rows : DirectCodeHasRow
   pub formed : SelectedCodeIsFormed
 
 -- ---- lists
@@ -74,12 +72,12 @@ inline_stays target (inst.Branch v d e) h = absurd (false≢true h)
 inline_stays target inst.RetVoid h = absurd (false≢true h)
 inline_stays target _ h = (refl, refl)
 
-module _ (program : SourceProgram) (rows : HasRowsOf program.target) (formed : IsFormed program (selected program)) (needs : needs_no_routine program ≡ true) (inline : is_inline_module program ≡ true) (short : length (inline_draft program) + 1 < 2 ^ 32) where
+module _ (program : SourceProgram) (rows : HasRowsOf program.target) (formed : IsFormed program (selected program)) (needs : needs_no_routine program ≡ true) (coded : is_direct_module program ≡ true) (short : length (direct_draft program) + 1 < 2 ^ 32) where
   abbrev target : Target
   target = program.target
 
   abbrev image : Image RvInstr
-  image = inline_image program
+  image = direct_image program
 
   abbrev sized : Line Virtual → ℕ
   sized line = size program frame_depth target line
@@ -92,14 +90,14 @@ module _ (program : SourceProgram) (rows : HasRowsOf program.target) (formed : I
 
   -- ---- the image
   code_is : image.code ≡ all_code program frame_depth target
-  code_is = draft_code (size_of (rv_program program) (inline_expansions target)) (code_of (rv_program program) (inline_expansions target)) (rv_places program (inline_expansions target)) (selected program).lines 1 0
+  code_is = draft_code (size_of (rv_program program) (direct_expansions target)) (code_of (rv_program program) (direct_expansions target)) (rv_places program (direct_expansions target)) (selected program).lines 1 0
 
   sites_are : image.sites ≡ chunk_ranges sized 1 all
   sites_are = ap (ranges_from sized 1) (sym (chunks_are program)) ∙ ranges_are sized 1 all (chunks_rise program sized (labels_none program frame_depth target))
 
   few : 1 + total wide all < 2 ^ 32
   few =
-      let a = length-map (inline_draft program) (λ (d : Drafted RvInstr). d.inst) in
+      let a = length-map (direct_draft program) (λ (d : Drafted RvInstr). d.inst) in
       let b = ap (λ (l : List RvInstr). length l) code_is ∙ all_long program frame_depth target in
       omega (arith, short, a, b)
 
@@ -183,9 +181,8 @@ module _ (program : SourceProgram) (rows : HasRowsOf program.target) (formed : I
     ready : (x : InstIn c) → IsReady target x.inst
     ready x =
         record {
-          inline = each_passes (inlined.is_inline target) program inline x.function x.number x.inst x.has;
+          coded = each_passes (is_coded target) program coded x.function x.number x.inst x.has;
           direct = each_passes (is_direct target) program needs x.function x.number x.inst x.has;
-          way = λ o e. inline_at program inline (site_of x.function x.number) x.inst o x.has e;
           legal = legal_in x;
         }
 
@@ -293,7 +290,7 @@ module _ (program : SourceProgram) (rows : HasRowsOf program.target) (formed : I
       subst (λ (l : ℕ). StaysInline rv_kind image l place (rv_kind.effect_of x c)) (sym ends)
       (subst (λ (m : ℕ). StaysInline rv_kind image (start + wide w.chunk - 1) m (rv_kind.effect_of x c)) (sym at)
       (placed_at (StaysAt program frame_depth target image code_is formed.labels w.before w.chunk w.after w.is few y.function y.number) start (laid (code program frame_depth target) sized start w.chunk.lines) p.offset x
-      (shape_stays program frame_depth target image code_is formed.labels w.before w.chunk w.after w.is few y.function y.number (operation_of y.inst) shape) got (omega (arith, at, low)) c (here ∙ at)))
+      (shape_stays program frame_depth target image code_is formed.labels w.before w.chunk w.after w.is few y.function y.number (operation_of y.inst) (inline_straight target rows y.inst own_inline) shape) got (omega (arith, at, low)) c (here ∙ at)))
     where
       w : ChunkOf sized 1 all r
       w = piece_of_range n r e
@@ -349,8 +346,11 @@ module _ (program : SourceProgram) (rows : HasRowsOf program.target) (formed : I
       same_inst : y.inst ≡ i
       same_inst = same_Some y.inst i (sym (at_site r w y) ∙ has)
 
+      own_inline : is_inline target y.inst ≡ true
+      own_inline = ap (is_inline target) same_inst ∙ is
+
       kinds : (is_plain y.inst ≡ false) × (is_leading y.inst ≡ false)
-      kinds = inline_stays target y.inst (ap (is_inline target) same_inst ∙ is)
+      kinds = inline_stays target y.inst own_inline
 
       shape : Shape y.function y.number false false (operation_of y.inst) w.chunk.lines
       shape =
@@ -368,8 +368,8 @@ module _ (program : SourceProgram) (rows : HasRowsOf program.target) (formed : I
         inline = stays;
       }
 
-pub images_have_rows : Laws → InlineImagesHaveRows
+pub images_have_rows : Laws → DirectImagesHaveRows
 images_have_rows laws program built accepted short =
-    let parts = and_parts (is_rv64 program.target && needs_no_routine program) (is_inline_module program) built in
+    let parts = and_parts (is_rv64 program.target && needs_no_routine program) (is_direct_module program) built in
     let first = and_parts (is_rv64 program.target) (needs_no_routine program) parts.0 in
     has_rows program (rv_has_rows laws.rows program.target first.0) (laws.formed program accepted) first.1 parts.1 short

@@ -3,4 +3,4 @@
 
 pub mod laws;
 
-pub use laws::inline_images_have_rows;
+pub use laws::direct_images_have_rows;

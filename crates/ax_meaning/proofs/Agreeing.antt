@@ -9,10 +9,11 @@ use Rattle.ax_words.specs.declared.event.Event.{Event}
 use Rattle.ax_words.specs.declared.source.SourceEvent.{SourceEvent}
 use Rattle.ax_words.specs.declared.source.SourceStatus.TheVariants.{Running}
 use Rattle.ax_store.specs.declared.entry.Entry.{Entry}
-use Rattle.ax_store.specs.Bytes.{covers, number_at}
+use Rattle.ax_map.specs.Map.{covers}
+use Rattle.ax_store.specs.Bytes.{number_at}
 use Rattle.ax_store.proofs.Numbers.{number_same}
 use Rattle.ax_layout.specs.declared.classes.Class.{Class}
-use Rattle.ax_layout.specs.declared.span.Span.{Span}
+use Rattle.ax_layout.specs.declared.address_range.AddressRange.{AddressRange}
 use Rattle.ax_layout.specs.Layout.{CanBeLaidOut, HasElement, address_in, bytes_in}
 use Rattle.ax_layout.specs.Regions.{AllLie, AreOfOneClass, InLayouts}
 use Rattle.ax_source_run.specs.SourceAccess.{is_native_class, is_native_element}
@@ -58,14 +59,14 @@ pub record Laws {I : Type 0} (z : Setting I) (v : Reading) (program : SourceProg
 
 -- ---- which stores are to native objects
 module _ (program : SourceProgram) where
-  native_true : (spans : List Span) (d g a : ℕ) (s : Span) → slice_get spans g ≡ Some s → covers s.start (s.count * s.bytes) a ≡ true → is_native_element program (d + g) ((a - s.start) / s.bytes) ≡ true → is_native_byte program d spans a ≡ true
+  native_true : (spans : List AddressRange) (d g a : ℕ) (s : AddressRange) → slice_get spans g ≡ Some s → covers s.start (s.count * s.bytes) a ≡ true → is_native_element program (d + g) ((a - s.start) / s.bytes) ≡ true → is_native_byte program d spans a ≡ true
   native_true [] d g a s e h n = absurd (none-some s e)
   native_true (x ∷ spans) d zero a s e h n =
       let same = Rattle.std.proofs.lemmas.Option.same_Some x s e in
       let at : d + 0 ≡ d = omega arith in
       let here : covers x.start (x.count * x.bytes) a && is_native_element program d ((a - x.start) / x.bytes) ≡ true =
-      and_from (covers x.start (x.count * x.bytes) a) (is_native_element program d ((a - x.start) / x.bytes)) (ap (λ (y : Span). covers y.start (y.count * y.bytes) a) same ∙ h)
-      (ap (λ (y : Span). is_native_element program d ((a - y.start) / y.bytes)) same ∙ (ap (λ (q : ℕ). is_native_element program q ((a - s.start) / s.bytes)) (sym at) ∙ n)) in
+      and_from (covers x.start (x.count * x.bytes) a) (is_native_element program d ((a - x.start) / x.bytes)) (ap (λ (y : AddressRange). covers y.start (y.count * y.bytes) a) same ∙ h)
+      (ap (λ (y : AddressRange). is_native_element program d ((a - y.start) / y.bytes)) same ∙ (ap (λ (q : ℕ). is_native_element program q ((a - s.start) / s.bytes)) (sym at) ∙ n)) in
       ap (λ (b : Bool). b || is_native_byte program (d + 1) spans a) here
   native_true (x ∷ spans) d (suc g) a s e h n =
       let at : d + suc g ≡ d + 1 + g = omega arith in
@@ -76,7 +77,7 @@ module _ (program : SourceProgram) where
       or_true true c e = refl
       or_true false c e = e
 
-  native_false : (spans : List Span) (d a : ℕ) → ((g : ℕ) (s : Span) → slice_get spans g ≡ Some s → s.start + s.count * s.bytes ≤ a) → is_native_byte program d spans a ≡ false
+  native_false : (spans : List AddressRange) (d a : ℕ) → ((g : ℕ) (s : AddressRange) → slice_get spans g ≡ Some s → s.start + s.count * s.bytes ≤ a) → is_native_byte program d spans a ≡ false
   native_false [] d a below = refl
   native_false (x ∷ spans) d a below =
       let past = below 0 x refl in
@@ -234,7 +235,7 @@ module _ {I : Type 0} (z : Setting I) (v : Reading) (program : SourceProgram) (f
             let d : a - start ≡ i * b = omega (arith, e) in
             ap (λ (q : ℕ). q / b) d ∙ mul-div_cancel i {n = b} some
 
-    below_frames : (g : ℕ) (s : Span) → slice_get program.layout.spans g ≡ Some s → s.start + s.count * s.bytes ≤ 16777216
+    below_frames : (g : ℕ) (s : AddressRange) → slice_get program.layout.spans g ≡ Some s → s.start + s.count * s.bytes ≤ 16777216
     below_frames g s there =
         let zero_plus : 0 + g ≡ g = omega arith in
         let at = Rattle.ax_selected.proofs.Lying.globals_get program program.layout.spans 0 g s there ∙ ap (λ (q : ℕ). Some (Rattle.ax_selected.specs.Selected.mid_global program program.layout q s)) zero_plus in

@@ -9,9 +9,10 @@ use Rattle.ax_words.specs.Width.{IsWidth}
 use Rattle.ax_store.proofs.Calls.{inside_all}
 use Rattle.ax_target.specs.Targets.{greatest_native}
 use Rattle.ax_layout.specs.declared.classes.Class.{Class}
-use Rattle.ax_layout.specs.declared.span.Span.{Span}
+use Rattle.ax_layout.specs.declared.address_range.AddressRange.{AddressRange}
 use Rattle.ax_layout.specs.Classes.{class_of}
-use Rattle.ax_layout.specs.Layout.{HasElement, address_in, bytes_in, count_in, globals_start, nowhere, span_in}
+use Rattle.ax_map.specs.Map.{globals_start}
+use Rattle.ax_layout.specs.Layout.{HasElement, address_in, bytes_in, count_in, nowhere, span_in}
 use Rattle.ax_layout.specs.Regions.{AllLie}
 use Rattle.ax_source_run.specs.SourceAccess.{is_native_class, is_native_element}
 use Rattle.ax_source_run.specs.SourceState.{SourceProgram}
@@ -35,12 +36,12 @@ width_within n h = (grind (arith, nat_tests, h), grind (arith, nat_tests, h))
 
 -- the span of a global
 pub record IsSpan (program : SourceProgram) (g : ℕ) (x : MidGlobal) : Type 0 where
-  pub span : Span
+  pub span : AddressRange
   pub there : slice_get program.layout.spans g ≡ Some span
   pub is : x ≡ mid_global program program.layout g span
 
 module _ (program : SourceProgram) where
-  span_of : (spans : List Span) (d g : ℕ) (x : MidGlobal) → slice_get (globals_from program d spans) g ≡ Some x → (s : Span) × (slice_get spans g ≡ Some s) × (x ≡ mid_global program program.layout (d + g) s)
+  span_of : (spans : List AddressRange) (d g : ℕ) (x : MidGlobal) → slice_get (globals_from program d spans) g ≡ Some x → (s : AddressRange) × (slice_get spans g ≡ Some s) × (x ≡ mid_global program program.layout (d + g) s)
   span_of [] d g x e = absurd (none-some x e)
   span_of (s ∷ spans) d zero x e =
       let at : d ≡ d + 0 = omega arith in
@@ -56,10 +57,10 @@ module _ (program : SourceProgram) where
       let at : 0 + g ≡ g = omega arith in
       record { span = r.0; there = r.1; is = r.2 ∙ ap (λ (q : ℕ). mid_global program program.layout q r.0) at }
 
-  span_there : (g : ℕ) (s : Span) → slice_get program.layout.spans g ≡ Some s → span_in program.layout g ≡ s
+  span_there : (g : ℕ) (s : AddressRange) → slice_get program.layout.spans g ≡ Some s → span_in program.layout g ≡ s
   span_there g s e = same_Some (span_in program.layout g) s (sym (slice_get-get_or program.layout.spans g nowhere (within program.layout.spans g s e)) ∙ e)
     where
-      within : (spans : List Span) (g : ℕ) (s : Span) → slice_get spans g ≡ Some s → g < length spans
+      within : (spans : List AddressRange) (g : ℕ) (s : AddressRange) → slice_get spans g ≡ Some s → g < length spans
       within [] g s e = absurd (none-some s e)
       within (x ∷ spans) zero s e = omega arith
       within (x ∷ spans) (suc g) s e = let r = within spans g s e in omega (arith, r)
@@ -78,14 +79,14 @@ module _ (program : SourceProgram) where
       record {
         has = record {
           global = index_within program.layout.spans g s.span s.there;
-          element = subst (λ (n : ℕ). i < n) (ap (λ (y : MidGlobal). y.count) s.is ∙ sym (ap (λ (y : Span). y.count) span)) within;
+          element = subst (λ (n : ℕ). i < n) (ap (λ (y : MidGlobal). y.count) s.is ∙ sym (ap (λ (y : AddressRange). y.count) span)) within;
         };
-        address = ap (λ (y : MidGlobal). address_of y i) s.is ∙ sym (ap (λ (y : Span). y.start + i * y.bytes) span);
-        bytes = ap (λ (y : MidGlobal). y.bytes) s.is ∙ sym (ap (λ (y : Span). y.bytes) span);
+        address = ap (λ (y : MidGlobal). address_of y i) s.is ∙ sym (ap (λ (y : AddressRange). y.start + i * y.bytes) span);
+        bytes = ap (λ (y : MidGlobal). y.bytes) s.is ∙ sym (ap (λ (y : AddressRange). y.bytes) span);
         native = ap (λ (y : MidGlobal). y.native) s.is;
       }
     where
-      index_within : (spans : List Span) (g : ℕ) (s : Span) → slice_get spans g ≡ Some s → g < length spans
+      index_within : (spans : List AddressRange) (g : ℕ) (s : AddressRange) → slice_get spans g ≡ Some s → g < length spans
       index_within [] g s e = absurd (none-some s e)
       index_within (x ∷ spans) zero s e = omega arith
       index_within (x ∷ spans) (suc g) s e = let r = index_within spans g s e in omega (arith, r)

@@ -1,10 +1,9 @@
 -- MACHINE CODE THAT FOLLOWS THE FINE MIDDLE MACHINE OF A MODULE'S SELECTED CODE lowers the module.
 use Rattle.std.specs.Prelude.{◌≡◌, ℕ, ◌≤◌, ◌<◌, Bool, true, List, [], option_map, slice_get}
 use Rattle.ax_words.specs.declared.event.Event.{Event}
-use Rattle.ax_store.specs.Storage.{Storage}
 use Rattle.ax_source_run.specs.SourceRun.{first_numbers, source_run, source_start}
 use Rattle.ax_source_run.specs.SourceState.{PendingStore, SourceProgram}
-use Rattle.ax_layout.specs.Layout.{globals_start}
+use Rattle.ax_map.specs.Map.{globals_start}
 use Rattle.ax_check.specs.Accepted.{IsAccepted}
 use Rattle.ax_standing.specs.Standing.{AreEntries}
 use Rattle.ax_isa.specs.Run.{Machine, Setting, explain, run}

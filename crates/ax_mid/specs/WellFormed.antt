@@ -1,5 +1,5 @@
 -- When middle code is well formed for a target: the rules that need no call of a routine.
-use Rattle.std.specs.Prelude.{◌≡◌, ℕ, ◌+◌, ◌-◌, ◌*◌, ◌<◌, ◌≤◌, ◌⊎◌, Bool, true, false, not, ◌&&◌, ◌||◌, IsTrue, Contains, nat_eq, nat_le, nat_lt, if◌then◌else◌, List, [], ◌∷◌, ◌++◌, Option, Some, None, length, slice_get}
+use Rattle.std.specs.Prelude.{◌≡◌, ℕ, ◌+◌, ◌-◌, ◌*◌, ◌<◌, ◌≤◌, ◌⊎◌, Bool, true, false, ◌&&◌, ◌||◌, IsTrue, Contains, nat_eq, nat_le, nat_lt, if◌then◌else◌, List, [], ◌∷◌, ◌++◌, Some, None, length, slice_get}
 use Rattle.ax_words.specs.declared.mark.Op.{Op}
 use Rattle.ax_words.specs.declared.mark.Op.TheVariants as op
 use Rattle.ax_words.specs.declared.order.Order.{Order}
@@ -9,6 +9,7 @@ use Rattle.ax_words.specs.Orders.{is_legal}
 use Rattle.ax_words.specs.Width.{IsWidth, bytes_of}
 use Rattle.ax_tags.specs.declared.tags.Tag.{Tag}
 use Rattle.ax_tags.specs.declared.tags.Tag.TheVariants as tag
+use Rattle.ax_map.specs.Map.{globals_limit, globals_start}
 use Rattle.ax_layout.specs.Classes.{class_of}
 use Rattle.ax_target.specs.declared.decision.Way.{Way}
 use Rattle.ax_target.specs.declared.decision.Way.TheVariants.{Inline, CasLoop, PairLoop, Masked, Sized, Generic}
@@ -55,13 +56,13 @@ abbrev pub LabelsStandInTheirFunctions : {R : Type 0} → Mid R → Type 0
 LabelsStandInTheirFunctions {R} m = (place n : ℕ) (a : Line R) → slice_get m.lines place ≡ Some a → Contains (labels_named a.inst) n → StandsIn m a.site.function n
 
 -- ---- globals
--- at most 65,536 elements of 1 to 16 bytes between 0x10000 and 0x110000, and their class
+-- at most 65,536 elements of 1 to 16 bytes where globals lie, and their class
 pub record IsPlaced (target : Target) (g : MidGlobal) : Type 0 where
   pub least : 1 ≤ g.count
   pub most : g.count ≤ 65536
   pub size : IsWidth g.bytes
-  pub above : 65536 ≤ g.address
-  pub below : g.address + g.count * g.bytes ≤ 1114112
+  pub above : globals_start ≤ g.address
+  pub below : g.address + g.count * g.bytes ≤ globals_limit
   pub class : g.native ≡ is_native_class (class_of g.address g.bytes target)
 
 pub record GlobalsLie {R : Type 0} (target : Target) (m : Mid R) : Type 0 where
@@ -171,7 +172,7 @@ is_last mid.Trap = true
 is_last mid.Ret = true
 is_last _ = false
 
--- the places of an image that a line takes at most, in units of 16
+-- the places of an image that a line takes at most, in units of 17: a select's four slots out of reach take four each
 unfoldable pub weight : {R : Type 0} → MidInst R → ℕ
 weight (mid.Atomic o width order weak address args results) = 8
 weight (mid.Call routine role args results) = 16
@@ -181,9 +182,9 @@ abbrev pub weight_of : {R : Type 0} → List (Line R) → ℕ
 weight_of [] = 0
 weight_of (line ∷ lines) = weight line.inst + weight_of lines
 
--- so that an image has fewer than 2 ^ 31 places
+-- 2 ^ 31 / 17, so that an image has fewer than 2 ^ 31 places
 abbrev pub most_weight : ℕ
-most_weight = 134217728 - 1
+most_weight = 126322567
 
 pub record HasShape {R : Type 0} (m : Mid R) : Type 0 where
   pub shaped : (place : ℕ) (a : Line R) → slice_get m.lines place ≡ Some a → IsTrue (is_shaped a.tag a.inst)

@@ -15,7 +15,7 @@ use Rattle.ax_module.specs.declared.module.Module.{Module}
 use Rattle.ax_module.specs.Names.{IsAscii, is_printable, is_name}
 use Rattle.ax_module.specs.Ascii.{called_name}
 use Rattle.ax_module.specs.Ascii.{CallsAscii, NamesAscii}
-use Rattle.ax_module.specs.WellFormed.{Scope, begins_with, is_global_name, is_function_name, is_callee_name, is_type, is_bit, is_result_type, is_arg, is_nonempty, is_inst, is_order, is_block, is_function, is_init, is_global, all_differ, names_of, IsModule, scope_of}
+use Rattle.ax_module.specs.WellFormed.{NameCounts, begins_with, is_global_name, is_function_name, is_callee_name, is_type, is_bit, is_result_type, is_arg, is_nonempty, is_inst, is_order, is_block, is_function, is_init, is_global, all_differ, names_of, IsModule, scope_of}
 
 all_pass : {A : Type 0} (test : A → Bool) (P : A → Type 0) → ((x : A) → test x ≡ true → P x) → (xs : List A) → list_all test xs ≡ true → All P xs
 all_pass test P f [] h = All-nil P
@@ -33,7 +33,7 @@ printable_ascii b h =
 name_ascii : (name : List ℕ) → is_name name ≡ true → IsAscii name
 name_ascii name h = all_pass is_printable (λ b. b < 128) printable_ascii name h
 
-inst_ascii : (scope : Scope) (i : Inst) → is_inst scope i ≡ true → IsAscii (called_name i)
+inst_ascii : (scope : NameCounts) (i : Inst) → is_inst scope i ≡ true → IsAscii (called_name i)
 unfolding is_inst called_name
 inst_ascii scope (Call t name args) h =
     let parts = and_parts (is_result_type t && is_callee_name name) (list_all (is_arg scope) args) h in
@@ -41,7 +41,7 @@ inst_ascii scope (Call t name args) h =
     name_ascii name (and_parts (is_name name) (not (begins_with (codes "llvm.lifetime.") name)) callee.1).0
 inst_ascii scope _ h = All-nil (λ b. b < 128)
 
-block_ascii : (scope : Scope) (b : Block) → is_block scope b ≡ true → CallsAscii b.insts
+block_ascii : (scope : NameCounts) (b : Block) → is_block scope b ≡ true → CallsAscii b.insts
 block_ascii scope b h =
     let parts = and_parts (is_order b.insts) (list_all (is_inst scope) b.insts) h in
     all_pass (is_inst scope) (λ i. IsAscii (called_name i)) (inst_ascii scope) b.insts parts.1

@@ -24,7 +24,7 @@ use Rattle.ax_module.specs.Ranges.{are_numbers_in_range}
 
 -- what an instruction may name: how many globals its module has, how many parameters and blocks
 -- its function, and the function's instructions by their numbers
-pub record Scope : Type 0 where
+pub record NameCounts : Type 0 where
   pub globals : ℕ
   pub params : ℕ
   pub blocks : ℕ
@@ -70,39 +70,39 @@ has_result_at None = false
 has_result_at (Some i) = has_result i
 
 -- instruction k has a result
-abbrev pub is_value : Scope → ℕ → Bool
+abbrev pub is_value : NameCounts → ℕ → Bool
 is_value scope k = has_result_at (slice_get scope.insts k)
 
-abbrev pub is_operand : Scope → Operand → Bool
+abbrev pub is_operand : NameCounts → Operand → Bool
 is_operand scope (Value k) = is_value scope k
 is_operand scope (Param k) = nat_lt k scope.params
 is_operand scope v = is_constant v
 
-abbrev pub is_typed : Scope → Ty → Operand → Bool
+abbrev pub is_typed : NameCounts → Ty → Operand → Bool
 is_typed scope t v = is_type t && is_operand scope v
 
-abbrev pub is_base : Scope → Base → Bool
+abbrev pub is_base : NameCounts → Base → Bool
 is_base scope (base.Global g) = nat_lt g scope.globals
 is_base scope (base.Value k) = is_value scope k
 is_base scope (base.Param k) = nat_lt k scope.params
 
-abbrev pub is_step : Scope → Option (Ty × ℕ × Ty × Operand) → Bool
+abbrev pub is_step : NameCounts → Option (Ty × ℕ × Ty × Operand) → Bool
 is_step scope None = true
 is_step scope (Some s) = is_type s.0 && is_typed scope s.2 s.3
 
-abbrev pub is_addr : Scope → Addr → Bool
+abbrev pub is_addr : NameCounts → Addr → Bool
 is_addr scope a = is_base scope a.base && is_step scope a.step
 
 -- a value of type `ptr` that is no constant is a pointer
-abbrev pub is_arg : Scope → Arg → Bool
+abbrev pub is_arg : NameCounts → Arg → Bool
 is_arg scope (arg.Pointer a) = is_addr scope a
 is_arg scope (arg.Value Ptr v) = is_constant v
 is_arg scope (arg.Value t v) = is_typed scope t v
 
-abbrev pub is_block_number : Scope → ℕ → Bool
+abbrev pub is_block_number : NameCounts → ℕ → Bool
 is_block_number scope b = nat_lt b scope.blocks
 
-abbrev pub is_entry : Scope → Operand × ℕ → Bool
+abbrev pub is_entry : NameCounts → Operand × ℕ → Bool
 is_entry scope e = is_operand scope e.0 && is_block_number scope e.1
 
 abbrev pub is_nonempty : {A : Type 0} → List A → Bool
@@ -114,7 +114,7 @@ abbrev pub is_result_type : Option Ty → Bool
 is_result_type None = true
 is_result_type (Some t) = is_type t
 
-unfoldable pub is_inst : Scope → Inst → Bool
+unfoldable pub is_inst : NameCounts → Inst → Bool
 is_inst scope (Bin op t v w) = is_typed scope t v && is_operand scope w
 is_inst scope (Icmp condition t v w) = is_typed scope t v && is_operand scope w
 is_inst scope (Select c t v u w) = is_operand scope c && is_typed scope t v && is_typed scope u w
@@ -147,14 +147,14 @@ is_body (i ∷ insts) =
 abbrev pub is_order : List Inst → Bool
 is_order insts = is_body (drop (prefix_len is_phi insts) insts)
 
-abbrev pub is_block : Scope → Block → Bool
+abbrev pub is_block : NameCounts → Block → Bool
 is_block scope b = is_order b.insts && list_all (is_inst scope) b.insts
 
 -- the function's instructions, whose positions are their numbers
 abbrev pub insts_of : Function → List Inst
 insts_of f = flat_map (λ b. b.insts) f.blocks
 
-abbrev pub scope_of : ℕ → Function → Scope
+abbrev pub scope_of : ℕ → Function → NameCounts
 scope_of globals f = record { globals = globals; params = length f.params; blocks = length f.blocks; insts = insts_of f }
 
 abbrev pub is_bit : Ty → Bool

@@ -13,10 +13,10 @@ use Rattle.ax_module.specs.declared.types.Ty.{Ty}
 use Rattle.ax_module.specs.declared.types.Ty.TheVariants.{I1, I8, I16, I32, I64, I128, Int, Float, Double, Ptr, Vector}
 use Rattle.ax_module.specs.Types.{type_bytes}
 use Rattle.ax_module.specs.WellFormed.{is_bit}
-use Rattle.ax_layout.specs.declared.span.Span.{Span}
+use Rattle.ax_layout.specs.declared.address_range.AddressRange.{AddressRange}
 use Rattle.ax_layout.specs.Layout.{CanBeLaidOut, HasElement, IsLaidOut, LayoutState, address_in, end_of_span, is_element_type, layout_of, nowhere, span_after, spans_after}
 use Rattle.ax_layout.proofs.Elements.{those}
-use Rattle.ax_rules.specs.declared.facts.Scope.{Scope}
+use Rattle.ax_rules.specs.declared.facts.FunctionScope.{FunctionScope}
 use Rattle.ax_rules.specs.Facts.{outcome_of, scope_of}
 use Rattle.ax_rules.specs.Parts.{pointers_of, types_of}
 use Rattle.ax_rules.specs.Width.{has_wide_step, is_left_out, is_odd, memory_types}
@@ -83,7 +83,7 @@ module _ (m : Module) (limits : CanBeLaidOut m) where
       record { global = that.within; element = subst (λ (n : ℕ). i < n) (sym that.count) lt }
 
   is_absent : (g : ℕ) (o : Option Global) → slice_get m.globals g ≡ o → (elements_of_global o).count ≡ 0 → address_in (layout_of m) g 0 ≡ 0
-  is_absent g None e none = ap (λ (span : Span). span.start + 0 * span.bytes) (no_span m.globals 65536 g e)
+  is_absent g None e none = ap (λ (span : AddressRange). span.start + 0 * span.bytes) (no_span m.globals 65536 g e)
   is_absent g (Some v) e none = let least = (laid_at m limits g v e).least in absurd (omega (arith, none, least))
 
 -- ---- a function
@@ -136,8 +136,8 @@ module _ (program : SourceProgram) (accepted : IsAccepted program) (n : ℕ) (f 
           absent = λ g none. subst (λ (layout : LayoutState). address_in layout g 0 ≡ 0) laid (is_absent m (limits program accepted) g (slice_get m.globals g) refl none);
         }
 
-    pub are_of : (scope : Scope) (frame : Frame) → n < length m.functions → scope ≡ scope_of m f → frame ≡ frame_of scope.outcomes → AreOf program n scope frame
-    are_of scope frame lt is by = subst (λ (x : Scope). (y : Frame) → y ≡ frame_of x.outcomes → AreOf program n x y) (sym is) made frame by
+    pub are_of : (scope : FunctionScope) (frame : Frame) → n < length m.functions → scope ≡ scope_of m f → frame ≡ frame_of scope.outcomes → AreOf program n scope frame
+    are_of scope frame lt is by = subst (λ (x : FunctionScope). (y : Frame) → y ≡ frame_of x.outcomes → AreOf program n x y) (sym is) made frame by
       where
         insts : List Inst
         insts = all_insts f.blocks

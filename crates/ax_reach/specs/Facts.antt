@@ -3,7 +3,7 @@ use Rattle.std.specs.Prelude.{◌≡◌, ℕ, ◌+◌, ◌<◌, ◌≤◌, slice
 use Rattle.ax_layout.specs.Layout.{HasElement, address_in}
 use Rattle.ax_module.specs.Types.{type_bytes}
 use Rattle.ax_rules.specs.declared.facts.Extent.{Extent}
-use Rattle.ax_rules.specs.declared.facts.Scope.{Scope}
+use Rattle.ax_rules.specs.declared.facts.FunctionScope.{FunctionScope}
 use Rattle.ax_rules.specs.Facts.{outcome_at}
 use Rattle.ax_source_run.specs.SourcePointers.{Elements, elements_of, no_elements}
 use Rattle.ax_source_run.specs.SourceState.{Object, Private, Shared, SourceProgram}
@@ -24,7 +24,7 @@ pub record Fits (program : SourceProgram) (f : ℕ) : Type 0 where
   pub absent : (g : ℕ) → count_of program f (Shared g) ≡ 0 → address_in program.layout g 0 ≡ 0
 
 -- results, elements and offsets are those of the function
-pub record AreOf (program : SourceProgram) (f : ℕ) (scope : Scope) (frame : Frame) : Type 0 where
+pub record AreOf (program : SourceProgram) (f : ℕ) (scope : FunctionScope) (frame : Frame) : Type 0 where
   pub outcome : (r : ℕ) → outcome_at scope r ≡ outcome_in program.source f r
   pub global : (g : ℕ) → slice_index_or scope.globals g (extent_of no_elements) ≡ extent_of (elements_of program.source f (Shared g))
   pub offset : (r : ℕ) → slice_index_or frame.offsets r frame.bytes ≡ frame_offset program.source f r

@@ -19,7 +19,7 @@ use ax_check::laws::{
 };
 use ax_mid::{MidInst, Virtual};
 use ax_module::{Function, Module, Ty};
-use ax_rules::{Extent, Outcome, Scope};
+use ax_rules::{Extent, FunctionScope, Outcome};
 use ax_words::Site;
 use std::alloc::{AllocError, Global};
 use std::marker::Model;
@@ -30,7 +30,7 @@ use std::marker::Model;
 pub struct Pointers<'a> {
     program: &'a Accepted,
     function: u32,
-    scope: Scope,
+    scope: FunctionScope,
     frame: Frame,
 }
 
@@ -88,7 +88,7 @@ impl<'a> Pointers<'a> {
         accepted_can_be_laid_out();
         program.is_without_faults();
         let source = program.module();
-        let scope = Scope::of(alloc, source, function_of(source, function))?;
+        let scope = FunctionScope::of(alloc, source, function_of(source, function))?;
         let frame = Frame::of(alloc, scope.outcomes.as_slice())?;
         Ok(Pointers {
             program,

@@ -13,11 +13,11 @@ use Rattle.ax_lex.proofs.Walk.{Reached, scan_bounds, next_reached, reached_end, 
 use Rattle.ax_symbols.specs.declared.symbol.Symbol.{Symbol}
 use Rattle.ax_symbols.specs.Grammar.{reads, all_of}
 use Rattle.ax_lines.specs.declared.statement.Line.{Line}
-use Rattle.ax_lines.specs.declared.statement.Place.{Place}
-use Rattle.ax_lines.specs.declared.statement.Place.TheVariants as place
+use Rattle.ax_lines.specs.declared.statement.Section.{Section}
+use Rattle.ax_lines.specs.declared.statement.Section.TheVariants as section
 use Rattle.ax_lines.specs.declared.fault.LineFault.{LineFault}
 use Rattle.ax_lines.specs.declared.fault.LineFault.TheVariants as fault
-use Rattle.ax_lines.specs.Productions.{line_at as grammar_at, place_after}
+use Rattle.ax_lines.specs.Productions.{line_at as grammar_at, section_after}
 use Rattle.ax_lines.specs.Lines.{AreLines, lines_of, is_opcode_fault}
 use Rattle.ax_lines.specs.Faults.{HaveFault}
 use Rattle.ax_lines.proofs.Places.{Walked, walk_starts, walk_goes_on, walk_stops, walk_ends, walk_open, stated_few}
@@ -80,28 +80,28 @@ lexed text =
 abbrev Lined : List (List Symbol) → Type 0
 Lined ls = ((xs : List Line) × AreLines ls xs) ⊎ ((e : LineFault) × HaveFault ls e)
 
-bad_line : (ls : List (List Symbol)) (xs : List Line) (at : Place) (l : List Symbol) (more : List (List Symbol)) (t : Bool) → Walked ls xs at (l ∷ more) → all_of (reads (grammar_at at) l) ≡ None → is_opcode_fault at l ≡ t → Lined ls
+bad_line : (ls : List (List Symbol)) (xs : List Line) (at : Section) (l : List Symbol) (more : List (List Symbol)) (t : Bool) → Walked ls xs at (l ∷ more) → all_of (reads (grammar_at at) l) ≡ None → is_opcode_fault at l ≡ t → Lined ls
 bad_line ls xs at l more true w e k = inr (fault.Opcode (length xs + 1), walk_stops ls xs at (l ∷ more) l more (fault.Opcode (length xs + 1)) w refl (refl, e, k))
 bad_line ls xs at l more false w e k = inr (fault.Syntax (length xs + 1), walk_stops ls xs at (l ∷ more) l more (fault.Syntax (length xs + 1)) w refl (refl, e, k))
 
-line_step : (ls : List (List Symbol)) (xs : List Line) (at : Place) (l : List Symbol) (more : List (List Symbol)) (o : Option Line) → Walked ls xs at (l ∷ more) → all_of (reads (grammar_at at) l) ≡ o
-    → ((x : Line) → Walked ls (xs ++ x ∷ []) (place_after at x) more → Lined ls) → Lined ls
+line_step : (ls : List (List Symbol)) (xs : List Line) (at : Section) (l : List Symbol) (more : List (List Symbol)) (o : Option Line) → Walked ls xs at (l ∷ more) → all_of (reads (grammar_at at) l) ≡ o
+    → ((x : Line) → Walked ls (xs ++ x ∷ []) (section_after at x) more → Lined ls) → Lined ls
 line_step ls xs at l more None w e go = bad_line ls xs at l more (is_opcode_fault at l) w e refl
 line_step ls xs at l more (Some x) w e go = go x (walk_goes_on ls xs at (l ∷ more) l more x w refl e)
 
-ended_at : (ls : List (List Symbol)) (xs : List Line) (at : Place) → Walked ls xs at [] → Lined ls
-ended_at ls xs place.Outside w = inl (xs, walk_ends ls xs place.Outside w)
-ended_at ls xs place.Start w = inr (fault.Syntax (length xs), walk_open ls xs place.Start w (λ e. absurd cc))
-ended_at ls xs place.Phis w = inr (fault.Syntax (length xs), walk_open ls xs place.Phis w (λ e. absurd cc))
-ended_at ls xs place.Inside w = inr (fault.Syntax (length xs), walk_open ls xs place.Inside w (λ e. absurd cc))
-ended_at ls xs place.Ended w = inr (fault.Syntax (length xs), walk_open ls xs place.Ended w (λ e. absurd cc))
+ended_at : (ls : List (List Symbol)) (xs : List Line) (at : Section) → Walked ls xs at [] → Lined ls
+ended_at ls xs section.Outside w = inl (xs, walk_ends ls xs section.Outside w)
+ended_at ls xs section.Start w = inr (fault.Syntax (length xs), walk_open ls xs section.Start w (λ e. absurd cc))
+ended_at ls xs section.Phis w = inr (fault.Syntax (length xs), walk_open ls xs section.Phis w (λ e. absurd cc))
+ended_at ls xs section.Inside w = inr (fault.Syntax (length xs), walk_open ls xs section.Inside w (λ e. absurd cc))
+ended_at ls xs section.Ended w = inr (fault.Syntax (length xs), walk_open ls xs section.Ended w (λ e. absurd cc))
 
-lined_from : (ls left : List (List Symbol)) (xs : List Line) (at : Place) → Walked ls xs at left → Lined ls
+lined_from : (ls left : List (List Symbol)) (xs : List Line) (at : Section) → Walked ls xs at left → Lined ls
 lined_from ls [] xs at w = ended_at ls xs at w
-lined_from ls (l ∷ more) xs at w = line_step ls xs at l more (all_of (reads (grammar_at at) l)) w refl (λ x v. lined_from ls more (xs ++ x ∷ []) (place_after at x) v)
+lined_from ls (l ∷ more) xs at w = line_step ls xs at l more (all_of (reads (grammar_at at) l)) w refl (λ x v. lined_from ls more (xs ++ x ∷ []) (section_after at x) v)
 
 lined : (ls : List (List Symbol)) → Lined ls
-lined ls = lined_from ls ls [] place.Outside (walk_starts ls)
+lined ls = lined_from ls ls [] section.Outside (walk_starts ls)
 
 -- ---- names
 

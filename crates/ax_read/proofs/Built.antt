@@ -10,16 +10,16 @@ use Rattle.ax_module.specs.declared.types.Ty.{Ty}
 use Rattle.ax_module.specs.declared.inst.Inst.{Inst}
 use Rattle.ax_module.specs.declared.module.Block.{Block}
 use Rattle.ax_module.specs.Kinds.{is_phi, is_terminator, has_result}
-use Rattle.ax_module.specs.WellFormed.{Scope, is_body, is_order, has_result_at}
-use Rattle.ax_symbols.specs.declared.symbol.Span.{Span}
+use Rattle.ax_module.specs.WellFormed.{NameCounts, is_body, is_order, has_result_at}
+use Rattle.ax_symbols.specs.declared.symbol.NameSpan.{NameSpan}
 use Rattle.ax_lines.specs.declared.statement.Statement.{Statement}
 use Rattle.ax_lines.specs.declared.statement.Statement.TheVariants as statement
 use Rattle.ax_lines.specs.declared.statement.Line.{Line}
 use Rattle.ax_lines.specs.declared.statement.Line.TheVariants as line
-use Rattle.ax_lines.specs.declared.statement.Place.{Place}
-use Rattle.ax_lines.specs.declared.statement.Place.TheVariants as place
+use Rattle.ax_lines.specs.declared.statement.Section.{Section}
+use Rattle.ax_lines.specs.declared.statement.Section.TheVariants as section
 use Rattle.ax_lines.specs.Productions as lines
-use Rattle.ax_lines.specs.Productions.{place_after, place_behind}
+use Rattle.ax_lines.specs.Productions.{section_after, section_behind}
 use Rattle.ax_scope.specs.declared.meaning.Meaning.{Meaning}
 use Rattle.ax_scope.specs.declared.meaning.Meaning.TheVariants as meaning
 use Rattle.ax_scope.specs.NameTable.{look}
@@ -33,15 +33,15 @@ use Rattle.ax_read.proofs.GrantedLines.{may, ResultFits, SoundLine}
 use Rattle.ax_read.proofs.Meant.{kind_is, IsValue, IsBlock}
 
 -- each line may stand in its place, from the first place to the second
-abbrev pub ChainTo : Place → List Line → Place → Type 0
+abbrev pub ChainTo : Section → List Line → Section → Type 0
 ChainTo p [] q = p ≡ q
-ChainTo p (l ∷ ls) q = (may p l ≡ true) × ChainTo (place_after p l) ls q
+ChainTo p (l ∷ ls) q = (may p l ≡ true) × ChainTo (section_after p l) ls q
 
 -- its names are declared
 abbrev pub IsStated : Looks → Line → Type 0
 IsStated x l = is_none (stated x l) ≡ false
 
-pub inst_at : (x : Looks) (r : Option Span) (s : Statement) → IsStated x (line.Inst r s) → (i : Inst) × (inst_of x s ≡ Some i) × (stated x (line.Inst r s) ≡ Some (Some i))
+pub inst_at : (x : Looks) (r : Option NameSpan) (s : Statement) → IsStated x (line.Inst r s) → (i : Inst) × (inst_of x s ≡ Some i) × (stated x (line.Inst r s) ≡ Some (Some i))
 unfolding stated
 inst_at x r s h = by (inst_of x s) refl h
   where
@@ -55,30 +55,30 @@ abbrev pub Orders : List Block → Type 0
 Orders bs = Each (λ (b : Block). is_order b.insts ≡ true) bs
 
 -- the blocks from a place on, the first of which goes on where the place is in one
-abbrev pub Shape : Place → List Block → Type 0
-Shape place.Outside bs = Unit {0}
-Shape place.Ended bs = Orders bs
-Shape place.Inside [] = ⊥
-Shape place.Inside (b ∷ bs) = (is_body b.insts ≡ true) × Orders bs
-Shape place.Start [] = ⊥
-Shape place.Start (b ∷ bs) = (is_order b.insts ≡ true) × Orders bs
-Shape place.Phis [] = ⊥
-Shape place.Phis (b ∷ bs) = (is_order b.insts ≡ true) × Orders bs
+abbrev pub Shape : Section → List Block → Type 0
+Shape section.Outside bs = Unit {0}
+Shape section.Ended bs = Orders bs
+Shape section.Inside [] = ⊥
+Shape section.Inside (b ∷ bs) = (is_body b.insts ≡ true) × Orders bs
+Shape section.Start [] = ⊥
+Shape section.Start (b ∷ bs) = (is_order b.insts ≡ true) × Orders bs
+Shape section.Phis [] = ⊥
+Shape section.Phis (b ∷ bs) = (is_order b.insts ≡ true) × Orders bs
 
-abbrev is_start : Place → Bool
-is_start place.Start = true
+abbrev is_start : Section → Bool
+is_start section.Start = true
 is_start _ = false
 
 -- the blocks that are begun
-abbrev owed : Place → ℕ
-owed place.Phis = 1
-owed place.Inside = 1
+abbrev owed : Section → ℕ
+owed section.Phis = 1
+owed section.Inside = 1
 owed _ = 0
 
-abbrev may_inst : Place → Bool → Bool
-may_inst place.Start f = true
-may_inst place.Phis f = true
-may_inst place.Inside f = not f
+abbrev may_inst : Section → Bool → Bool
+may_inst section.Start f = true
+may_inst section.Phis f = true
+may_inst section.Inside f = not f
 may_inst _ f = false
 
 abbrev pub insts_all : Looks → List Line → List Inst
@@ -108,27 +108,27 @@ onto_same : (bs : List Block) → onto [] bs ≡ bs
 onto_same [] = refl
 onto_same (b ∷ bs) = refl
 
-abbrev Step : Place → ℕ → List Inst → List Block → Type 0
+abbrev Step : Section → ℕ → List Inst → List Block → Type 0
 Step p n insts bs = Shape p bs × (owed p + n ≡ length bs) × (flat bs ≡ insts)
 
-abbrev place_of : Bool → Bool → Place
-place_of t f = cond t place.Ended (cond f place.Phis place.Inside)
+abbrev place_of : Bool → Bool → Section
+place_of t f = cond t section.Ended (cond f section.Phis section.Inside)
 
-inst_step : (p : Place) (i : Inst) (t f : Bool) (bs : List Block) (n : ℕ) (insts : List Inst) (entry : List ℕ) → is_terminator i ≡ t → is_phi i ≡ f → (t ≡ true → f ≡ false) → may_inst p f ≡ true
+inst_step : (p : Section) (i : Inst) (t f : Bool) (bs : List Block) (n : ℕ) (insts : List Inst) (entry : List ℕ) → is_terminator i ≡ t → is_phi i ≡ f → (t ≡ true → f ≡ false) → may_inst p f ≡ true
     → Step (place_of t f) n insts bs → Step p (count_some (cond (is_start p) (Some entry) None) + n) (i ∷ insts) (onto (i ∷ []) (cond t (empty_block ∷ bs) bs))
 inst_step p i true true bs n insts entry t f x m h = absurd (true≢false (x refl))
-inst_step place.Start i true false bs n insts entry t f x m h = ((order_body i [] f (body_end i t), h.0), omega (arith, h.1), ap (λ (xs : List Inst). i ∷ xs) h.2)
-inst_step place.Phis i true false bs n insts entry t f x m h = ((order_body i [] f (body_end i t), h.0), omega (arith, h.1), ap (λ (xs : List Inst). i ∷ xs) h.2)
-inst_step place.Inside i true false bs n insts entry t f x m h = ((body_end i t, h.0), omega (arith, h.1), ap (λ (xs : List Inst). i ∷ xs) h.2)
+inst_step section.Start i true false bs n insts entry t f x m h = ((order_body i [] f (body_end i t), h.0), omega (arith, h.1), ap (λ (xs : List Inst). i ∷ xs) h.2)
+inst_step section.Phis i true false bs n insts entry t f x m h = ((order_body i [] f (body_end i t), h.0), omega (arith, h.1), ap (λ (xs : List Inst). i ∷ xs) h.2)
+inst_step section.Inside i true false bs n insts entry t f x m h = ((body_end i t, h.0), omega (arith, h.1), ap (λ (xs : List Inst). i ∷ xs) h.2)
 inst_step _ i true false bs n insts entry t f x m h = absurd (false≢true m)
 inst_step p i false true [] n insts entry t f x m h = absurd h.0
-inst_step place.Start i false true (b ∷ bs) n insts entry t f x m h = ((order_phi i b.insts f h.0.0, h.0.1), omega (arith, h.1), ap (λ (xs : List Inst). i ∷ xs) h.2)
-inst_step place.Phis i false true (b ∷ bs) n insts entry t f x m h = ((order_phi i b.insts f h.0.0, h.0.1), omega (arith, h.1), ap (λ (xs : List Inst). i ∷ xs) h.2)
+inst_step section.Start i false true (b ∷ bs) n insts entry t f x m h = ((order_phi i b.insts f h.0.0, h.0.1), omega (arith, h.1), ap (λ (xs : List Inst). i ∷ xs) h.2)
+inst_step section.Phis i false true (b ∷ bs) n insts entry t f x m h = ((order_phi i b.insts f h.0.0, h.0.1), omega (arith, h.1), ap (λ (xs : List Inst). i ∷ xs) h.2)
 inst_step _ i false true (b ∷ bs) n insts entry t f x m h = absurd (false≢true m)
 inst_step p i false false [] n insts entry t f x m h = absurd h.0
-inst_step place.Start i false false (b ∷ bs) n insts entry t f x m h = ((order_body i b.insts f (body_more i b.insts t f h.0.0), h.0.1), omega (arith, h.1), ap (λ (xs : List Inst). i ∷ xs) h.2)
-inst_step place.Phis i false false (b ∷ bs) n insts entry t f x m h = ((order_body i b.insts f (body_more i b.insts t f h.0.0), h.0.1), omega (arith, h.1), ap (λ (xs : List Inst). i ∷ xs) h.2)
-inst_step place.Inside i false false (b ∷ bs) n insts entry t f x m h = ((body_more i b.insts t f h.0.0, h.0.1), omega (arith, h.1), ap (λ (xs : List Inst). i ∷ xs) h.2)
+inst_step section.Start i false false (b ∷ bs) n insts entry t f x m h = ((order_body i b.insts f (body_more i b.insts t f h.0.0), h.0.1), omega (arith, h.1), ap (λ (xs : List Inst). i ∷ xs) h.2)
+inst_step section.Phis i false false (b ∷ bs) n insts entry t f x m h = ((order_body i b.insts f (body_more i b.insts t f h.0.0), h.0.1), omega (arith, h.1), ap (λ (xs : List Inst). i ∷ xs) h.2)
+inst_step section.Inside i false false (b ∷ bs) n insts entry t f x m h = ((body_more i b.insts t f h.0.0, h.0.1), omega (arith, h.1), ap (λ (xs : List Inst). i ∷ xs) h.2)
 inst_step _ i false false (b ∷ bs) n insts entry t f x m h = absurd (false≢true m)
 
 no_phi : (s : Statement) → lines.is_terminator s ≡ true → lines.is_phi s ≡ false
@@ -136,21 +136,21 @@ unfolding lines.is_terminator lines.is_phi
 no_phi (statement.Phi t ps) e = absurd (false≢true e)
 no_phi _ e = refl
 
-may_state : (p : Place) (r : Option Span) (s : Statement) → may p (line.Inst r s) ≡ true → may_inst p (lines.is_phi s) ≡ true
-may_state place.Start r s h = refl
-may_state place.Phis r s h = refl
-may_state place.Inside r s h = h
+may_state : (p : Section) (r : Option NameSpan) (s : Statement) → may p (line.Inst r s) ≡ true → may_inst p (lines.is_phi s) ≡ true
+may_state section.Start r s h = refl
+may_state section.Phis r s h = refl
+may_state section.Inside r s h = h
 may_state _ r s h = absurd (false≢true h)
 
-label_shape : (p : Place) (n : Span) (bs : List Block) → may p (line.Label n) ≡ true → Shape place.Phis bs → Shape p bs
+label_shape : (p : Section) (n : NameSpan) (bs : List Block) → may p (line.Label n) ≡ true → Shape section.Phis bs → Shape p bs
 label_shape p n [] m h = absurd h
-label_shape place.Start n (b ∷ bs) m h = h
-label_shape place.Ended n (b ∷ bs) m h = h
+label_shape section.Start n (b ∷ bs) m h = h
+label_shape section.Ended n (b ∷ bs) m h = h
 label_shape _ n (b ∷ bs) m h = absurd (false≢true m)
 
-label_owed : (p : Place) (n : Span) → may p (line.Label n) ≡ true → owed p ≡ 0
-label_owed place.Start n m = refl
-label_owed place.Ended n m = refl
+label_owed : (p : Section) (n : NameSpan) → may p (line.Label n) ≡ true → owed p ≡ 0
+label_owed section.Start n m = refl
+label_owed section.Ended n m = refl
 label_owed _ n m = absurd (false≢true m)
 
 not_start : (t f : Bool) → is_start (place_of t f) ≡ false
@@ -159,48 +159,48 @@ not_start false true = refl
 not_start false false = refl
 
 module _ (text entry : List ℕ) (x : Looks) where
-  abbrev pub Built : Place → List Line → Type 0
+  abbrev pub Built : Section → List Line → Type 0
   Built p ls = Step p (block_count text entry (is_start p) ls) (insts_all x ls) (blocks_in x ls)
 
-  built_end : (p : Place) → p ≡ place.Ended → Built p []
-  built_end p e = subst (λ (q : Place). Built q []) (sym e) (tt, refl, refl)
+  built_end : (p : Section) → p ≡ section.Ended → Built p []
+  built_end p e = subst (λ (q : Section). Built q []) (sym e) (tt, refl, refl)
 
-  built_nothing : (p : Place) (ls : List Line) → Built p ls → Built p (line.Nothing ∷ ls)
+  built_nothing : (p : Section) (ls : List Line) → Built p ls → Built p (line.Nothing ∷ ls)
   unfolding stated ends_block block_name first_behind
   built_nothing p ls h =
       let s : Step p (block_count text entry (is_start p) ls) (insts_all x ls) (onto [] (blocks_in x ls)) = subst (λ (bs : List Block). Step p (block_count text entry (is_start p) ls) (insts_all x ls) bs) (sym (onto_same (blocks_in x ls))) h in
       (s.0, omega (arith, s.1), s.2)
 
-  built_label : (p : Place) (n : Span) (ls : List Line) → may p (line.Label n) ≡ true → Built place.Phis ls → Built p (line.Label n ∷ ls)
+  built_label : (p : Section) (n : NameSpan) (ls : List Line) → may p (line.Label n) ≡ true → Built section.Phis ls → Built p (line.Label n ∷ ls)
   unfolding stated ends_block block_name first_behind
   built_label p n ls m h =
-      let s : Step place.Phis (block_count text entry false ls) (insts_all x ls) (onto [] (blocks_in x ls)) = subst (λ (bs : List Block). Step place.Phis (block_count text entry false ls) (insts_all x ls) bs) (sym (onto_same (blocks_in x ls))) h in
+      let s : Step section.Phis (block_count text entry false ls) (insts_all x ls) (onto [] (blocks_in x ls)) = subst (λ (bs : List Block). Step section.Phis (block_count text entry false ls) (insts_all x ls) bs) (sym (onto_same (blocks_in x ls))) h in
       (label_shape p n (onto [] (blocks_in x ls)) m s.0, omega (arith, s.1, label_owed p n m), s.2)
 
-  built_inst : (p : Place) (r : Option Span) (s : Statement) (ls : List Line) → may p (line.Inst r s) ≡ true → IsStated x (line.Inst r s) → Built (place_behind s) ls → Built p (line.Inst r s ∷ ls)
+  built_inst : (p : Section) (r : Option NameSpan) (s : Statement) (ls : List Line) → may p (line.Inst r s) ≡ true → IsStated x (line.Inst r s) → Built (section_behind s) ls → Built p (line.Inst r s ∷ ls)
   unfolding ends_block block_name first_behind
   built_inst p r s ls m g h =
       let k = inst_at x r s g in
       let kinds = (kind_is x s).holds k.0 k.1 in
       let n : ℕ = block_count text entry false ls in
-      let counted : Step (place_behind s) n (insts_all x ls) (blocks_in x ls) = subst (λ (b : Bool). Step (place_behind s) (block_count text entry b ls) (insts_all x ls) (blocks_in x ls)) (not_start (lines.is_terminator s) (lines.is_phi s)) h in
+      let counted : Step (section_behind s) n (insts_all x ls) (blocks_in x ls) = subst (λ (b : Bool). Step (section_behind s) (block_count text entry b ls) (insts_all x ls) (blocks_in x ls)) (not_start (lines.is_terminator s) (lines.is_phi s)) h in
       let step = inst_step p k.0 (lines.is_terminator s) (lines.is_phi s) (blocks_in x ls) n (insts_all x ls) entry kinds.1 kinds.0 (no_phi s) (may_state p r s m) counted in
       subst (λ (o : Option (Option Inst)). Step p (count_some (cond (is_start p) (Some entry) None) + n) (insts_in o ++ insts_all x ls) (onto (insts_in o) (cond (lines.is_terminator s) (empty_block ∷ blocks_in x ls) (blocks_in x ls)))) (sym k.2) step
 
-  pub built : (p : Place) (ls : List Line) → ChainTo p ls place.Ended → Each (λ l. is_inner l ≡ true) ls → Each (IsStated x) ls → Built p ls
-  unfolding place_after is_inner
+  pub built : (p : Section) (ls : List Line) → ChainTo p ls section.Ended → Each (λ l. is_inner l ≡ true) ls → Each (IsStated x) ls → Built p ls
+  unfolding section_after is_inner
   built p [] c n g = built_end p c
   built p (line.Nothing ∷ ls) c n g = built_nothing p ls (built p ls c.1 n.1 g.1)
-  built p (line.Label l ∷ ls) c n g = built_label p l ls c.0 (built place.Phis ls c.1 n.1 g.1)
-  built p (line.Inst r s ∷ ls) c n g = built_inst p r s ls c.0 g.0 (built (place_behind s) ls c.1 n.1 g.1)
+  built p (line.Label l ∷ ls) c n g = built_label p l ls c.0 (built section.Phis ls c.1 n.1 g.1)
+  built p (line.Inst r s ∷ ls) c n g = built_inst p r s ls c.0 g.0 (built (section_behind s) ls c.1 n.1 g.1)
   built p (line.Close ∷ ls) c n g = absurd (false≢true n.0)
   built p (line.Global l t k vs a ∷ ls) c n g = absurd (false≢true n.0)
   built p (line.Define f r ps ∷ ls) c n g = absurd (false≢true n.0)
 
 -- ---- the lines of a function
 
-abbrev pub is_outside : Place → Bool
-is_outside place.Outside = true
+abbrev pub is_outside : Section → Bool
+is_outside section.Outside = true
 is_outside _ = false
 
 not_outside : (t f : Bool) → is_outside (place_of t f) ≡ false
@@ -208,20 +208,20 @@ not_outside true f = refl
 not_outside false true = refl
 not_outside false false = refl
 
-close_ended : (p : Place) → may p line.Close ≡ true → p ≡ place.Ended
-close_ended place.Ended m = refl
+close_ended : (p : Section) → may p line.Close ≡ true → p ≡ section.Ended
+close_ended section.Ended m = refl
 close_ended _ m = absurd (false≢true m)
 
-pub inside_chain : (p : Place) (ls : List Line) → is_outside p ≡ false → ChainTo p ls place.Outside → ChainTo p (inside_of ls) place.Ended × Each (λ l. is_inner l ≡ true) (inside_of ls)
-unfolding place_after is_inner
+pub inside_chain : (p : Section) (ls : List Line) → is_outside p ≡ false → ChainTo p ls section.Outside → ChainTo p (inside_of ls) section.Ended × Each (λ l. is_inner l ≡ true) (inside_of ls)
+unfolding section_after is_inner
 inside_chain p [] o c = absurd (true≢false (ap is_outside (sym c) ∙ o))
 inside_chain p (line.Nothing ∷ ls) o c = let h = inside_chain p ls o c.1 in rw one-add ((c.0, h.0), (refl, h.1))
-inside_chain p (line.Label l ∷ ls) o c = let h = inside_chain place.Phis ls refl c.1 in rw one-add ((c.0, h.0), (refl, h.1))
-inside_chain p (line.Inst r s ∷ ls) o c = let h = inside_chain (place_behind s) ls (not_outside (lines.is_terminator s) (lines.is_phi s)) c.1 in rw one-add ((c.0, h.0), (refl, h.1))
+inside_chain p (line.Label l ∷ ls) o c = let h = inside_chain section.Phis ls refl c.1 in rw one-add ((c.0, h.0), (refl, h.1))
+inside_chain p (line.Inst r s ∷ ls) o c = let h = inside_chain (section_behind s) ls (not_outside (lines.is_terminator s) (lines.is_phi s)) c.1 in rw one-add ((c.0, h.0), (refl, h.1))
 inside_chain p (line.Close ∷ ls) o c = (close_ended p c.0, tt)
-inside_chain place.Outside (line.Global l t k vs a ∷ ls) o c = absurd (true≢false o)
+inside_chain section.Outside (line.Global l t k vs a ∷ ls) o c = absurd (true≢false o)
 inside_chain _ (line.Global l t k vs a ∷ ls) o c = absurd (false≢true c.0)
-inside_chain place.Outside (line.Define f r ps ∷ ls) o c = absurd (true≢false o)
+inside_chain section.Outside (line.Define f r ps ∷ ls) o c = absurd (true≢false o)
 inside_chain _ (line.Define f r ps ∷ ls) o c = absurd (false≢true c.0)
 
 pub each_take : {A : Type 0} (P : A → Type 0) (n : ℕ) (xs : List A) → Each P xs → Each P (take n xs)
@@ -258,8 +258,8 @@ slice_get_at : (pre : List Inst) (i : Inst) (rest : List Inst) → slice_get (pr
 slice_get_at [] i rest = refl
 slice_get_at (j ∷ pre) i rest = slice_get_at pre i rest
 
-module _ (scope : Scope) (text : List ℕ) (x : Looks) where
-  pub params_fit : (k : ℕ) (ps : List (Ty × Span)) → k + length ps ≤ scope.params → Each (Entry (IsValue scope)) (params_from text k ps)
+module _ (scope : NameCounts) (text : List ℕ) (x : Looks) where
+  pub params_fit : (k : ℕ) (ps : List (Ty × NameSpan)) → k + length ps ≤ scope.params → Each (Entry (IsValue scope)) (params_from text k ps)
   params_fit k [] h = tt
   params_fit k (p ∷ ps) h = (lt-ltb k scope.params (omega (arith, h)), params_fit (k + 1) ps (omega (arith, h)))
 
@@ -286,7 +286,7 @@ module _ (scope : Scope) (text : List ℕ) (x : Looks) where
       let more = results_fit (pre ++ i.0 ∷ []) (k + 1) ls (omega (arith, length-append pre (i.0 ∷ []), long)) g.1 s.1 (w ∙ sym (append_assoc pre (i.0 ∷ []) (insts_all x ls))) in
       by r s.0.1 (λ h. value_at pre k i.0 (insts_all x ls) long w (kinds.2 ∙ h)) more
     where
-      by : (r : Option Span) → ResultFits r st → (states_result st ≡ true → IsValue scope (meaning.Value k)) → Each (Entry (IsValue scope)) (results_from text (k + 1) ls) → Each (Entry (IsValue scope)) (declared (maybe_at text r) (meaning.Value k) ++ results_from text (k + 1) ls)
+      by : (r : Option NameSpan) → ResultFits r st → (states_result st ≡ true → IsValue scope (meaning.Value k)) → Each (Entry (IsValue scope)) (results_from text (k + 1) ls) → Each (Entry (IsValue scope)) (declared (maybe_at text r) (meaning.Value k) ++ results_from text (k + 1) ls)
       by None f v more = more
       by (Some r) f v more = (v f, more)
   results_fit pre k (_ ∷ ls) long g s whole = results_fit pre (k + 0) ls (omega (arith, long)) g.1 s.1 whole

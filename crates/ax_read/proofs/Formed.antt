@@ -10,17 +10,17 @@ use Rattle.ax_module.specs.declared.inst.Inst.{Inst}
 use Rattle.ax_module.specs.declared.module.Block.{Block}
 use Rattle.ax_module.specs.declared.module.Function.{Function}
 use Rattle.ax_module.specs.declared.module.Module.{Module}
-use Rattle.ax_module.specs.WellFormed.{Scope, IsModule, is_counted, is_type, is_bit, is_result_type, is_nonempty, is_inst, is_order, is_block, is_function, is_function_name, scope_of, is_global}
+use Rattle.ax_module.specs.WellFormed.{NameCounts, IsModule, is_counted, is_type, is_bit, is_result_type, is_nonempty, is_inst, is_order, is_block, is_function, is_function_name, scope_of, is_global}
 use Rattle.ax_module.specs.Ranges.{is_in_range, is_inst_in_range, is_function_in_range, is_global_in_range}
-use Rattle.ax_symbols.specs.declared.symbol.Span.{Span}
+use Rattle.ax_symbols.specs.declared.symbol.NameSpan.{NameSpan}
 use Rattle.ax_symbols.specs.declared.symbol.Symbol.{Symbol}
 use Rattle.ax_symbols.specs.declared.values.Value.{Value}
 use Rattle.ax_symbols.specs.declared.values.Value.TheVariants as value
 use Rattle.ax_lines.specs.declared.statement.Line.{Line}
 use Rattle.ax_lines.specs.declared.statement.Line.TheVariants as line
-use Rattle.ax_lines.specs.declared.statement.Place.{Place}
-use Rattle.ax_lines.specs.declared.statement.Place.TheVariants as place
-use Rattle.ax_lines.specs.Productions.{place_after}
+use Rattle.ax_lines.specs.declared.statement.Section.{Section}
+use Rattle.ax_lines.specs.declared.statement.Section.TheVariants as section
+use Rattle.ax_lines.specs.Productions.{section_after}
 use Rattle.ax_lines.specs.Lines.{InPlace, lines_of}
 use Rattle.ax_scope.specs.declared.meaning.Meaning.{Meaning}
 use Rattle.ax_scope.specs.NameTable.{look}
@@ -39,13 +39,13 @@ use Rattle.ax_read.proofs.Built.{ChainTo, IsStated, inst_at, Orders, Shape, inst
 use Rattle.ax_read.proofs.NamesDiffer.{differ}
 
 -- what lines in their places state is sound
-said_lines : (text : List ℕ) (p : Place) (ls : List (List Symbol)) (xs : List Line) (q : Place) → InPlace p ls xs q → Each (Each (IsSound text)) ls → ChainTo p xs q × Each (SoundLine text) xs
+said_lines : (text : List ℕ) (p : Section) (ls : List (List Symbol)) (xs : List Line) (q : Section) → InPlace p ls xs q → Each (Each (IsSound text)) ls → ChainTo p xs q × Each (SoundLine text) xs
 said_lines text p [] [] q h s = (h, tt)
 said_lines text p [] (x ∷ xs) q h s = absurd h
 said_lines text p (l ∷ ls) [] q h s = absurd h
 said_lines text p (l ∷ ls) (x ∷ xs) q h s =
     let g = (line_is p).holds l [] x s.0 h.0 in
-    let more = said_lines text (place_after p x) ls xs q h.1 s.1 in
+    let more = said_lines text (section_after p x) ls xs q h.1 s.1 in
     ((g.0.1, more.0), (g.0.0, more.1))
 
 -- ---- globals
@@ -68,7 +68,7 @@ globals_good text (line.Global g t c vs a ∷ ls) h =
     (and_from _ _ (and_from _ _ (and_from _ _ s.0 s.1) s.5) more.0, and_from _ _ (and_from _ _ (and_from _ _ s.2 s.3) (constants_in_range vs s.4)) more.1)
 globals_good text (_ ∷ ls) h = globals_good text ls h.1
 
-globals_fit : (scope : Scope) (text : List ℕ) (k : ℕ) (ls : List Line) → k + length (globals_in text ls) ≤ scope.globals → Each (λ (e : List ℕ × Meaning). IsGlobal scope e.1) (globals_from text k ls)
+globals_fit : (scope : NameCounts) (text : List ℕ) (k : ℕ) (ls : List Line) → k + length (globals_in text ls) ≤ scope.globals → Each (λ (e : List ℕ × Meaning). IsGlobal scope e.1) (globals_from text k ls)
 unfolding global_at global_name
 globals_fit scope text k [] h = tt
 globals_fit scope text k (line.Global g t c vs a ∷ ls) h = (lt-ltb k scope.globals (omega (arith, h)), globals_fit scope text (k + 1) ls (omega (arith, h)))
@@ -80,11 +80,11 @@ result_good : (r : Option Ty) → is_result_type r ≡ true → (if is_none r th
 result_good None h = refl
 result_good (Some t) h = h
 
-types_good : (ps : List (Ty × Span)) → Each (λ (p : Ty × Span). is_type p.0 ≡ true) ps → list_all is_type (map (λ (p : Ty × Span). p.0) ps) ≡ true
+types_good : (ps : List (Ty × NameSpan)) → Each (λ (p : Ty × NameSpan). is_type p.0 ≡ true) ps → list_all is_type (map (λ (p : Ty × NameSpan). p.0) ps) ≡ true
 types_good [] h = refl
-types_good (p ∷ ps) h = and_from (is_type p.0) (list_all is_type (map (λ (p : Ty × Span). p.0) ps)) h.0 (types_good ps h.1)
+types_good (p ∷ ps) h = and_from (is_type p.0) (list_all is_type (map (λ (p : Ty × NameSpan). p.0) ps)) h.0 (types_good ps h.1)
 
-shape_orders : (bs : List Block) → Shape place.Start bs → Orders bs × (is_nonempty bs ≡ true)
+shape_orders : (bs : List Block) → Shape section.Start bs → Orders bs × (is_nonempty bs ≡ true)
 shape_orders [] h = absurd h
 shape_orders (b ∷ bs) h = (h, refl)
 
@@ -92,7 +92,7 @@ each_front : {A : Type 0} (P : A → Type 0) (xs ys : List A) → Each P (xs ++ 
 each_front P [] ys h = tt
 each_front P (x ∷ xs) ys h = (h.0, each_front P xs ys h.1)
 
-module _ (scope : Scope) (x : Looks) (fit : LooksFit scope x) where
+module _ (scope : NameCounts) (x : Looks) (fit : LooksFit scope x) where
   list_good : (insts : List Inst) → Each (InstFits scope x fit) insts → (list_all (is_inst scope) insts ≡ true) × (list_all is_inst_in_range insts ≡ true)
   list_good [] h = (refl, refl)
   list_good (i ∷ insts) h =
@@ -115,8 +115,8 @@ module _ (scope : Scope) (x : Looks) (fit : LooksFit scope x) where
       subst (λ (o : Option (Option Inst)). Each (InstFits scope x fit) (insts_in o ++ insts_all x ls)) (sym i.2) (this, insts_good ls g.1 s.1)
   insts_good (_ ∷ ls) g s = insts_good ls g.1 s.1
 
-module _ (text : List ℕ) (globals : List ℕ → Option Meaning) (n : ℕ) (known : (scope : Scope) → n ≤ scope.globals → (name : List ℕ) (m : Meaning) → globals name ≡ Some m → IsGlobal scope m) where
-  abbrev function_of : Span → Option Ty → List (Ty × Span) → List Line → Function
+module _ (text : List ℕ) (globals : List ℕ → Option Meaning) (n : ℕ) (known : (scope : NameCounts) → n ≤ scope.globals → (name : List ℕ) (m : Meaning) → globals name ≡ Some m → IsGlobal scope m) where
+  abbrev function_of : NameSpan → Option Ty → List (Ty × NameSpan) → List Line → Function
   function_of f r ps behind = record {
     name = text_at text f;
     result = result_or r;
@@ -128,7 +128,7 @@ module _ (text : List ℕ) (globals : List ℕ → Option Meaning) (n : ℕ) (kn
   abbrev Good : Function → Type 0
   Good f = (is_function n f ≡ true) × (is_function_in_range f ≡ true)
 
-  function_named : (names : List (List ℕ)) (f : Span) (r : Option Ty) (ps : List (Ty × Span)) → outer_fault text names (line.Define f r ps) ≡ false → SoundLine text (line.Define f r ps) → is_function_name (text_at text f) ≡ true
+  function_named : (names : List (List ℕ)) (f : NameSpan) (r : Option Ty) (ps : List (Ty × NameSpan)) → outer_fault text names (line.Define f r ps) ≡ false → SoundLine text (line.Define f r ps) → is_function_name (text_at text f) ≡ true
   unfolding is_reserved
   function_named names f r ps h s =
       let l : Line = line.Define f r ps in
@@ -136,20 +136,20 @@ module _ (text : List ℕ) (globals : List ℕ → Option Meaning) (n : ℕ) (kn
       let b = (or_parts (is_reserved text l) (again names (option_to_list (outer_name text l))) a).0 in
       and_from _ _ s.0 (not_from_false _ b)
 
-  function_good : (names more : List (List ℕ)) (f : Span) (r : Option Ty) (ps : List (Ty × Span)) (behind : List Line) → outer_fault text names (line.Define f r ps) ≡ false → SoundLine text (line.Define f r ps)
-      → AllFalse (faults_from text globals more (Some (body_of text globals ps (inside_of behind))) behind) → ChainTo place.Start behind place.Outside → Each (SoundLine text) behind → Good (function_of f r ps behind)
+  function_good : (names more : List (List ℕ)) (f : NameSpan) (r : Option Ty) (ps : List (Ty × NameSpan)) (behind : List Line) → outer_fault text names (line.Define f r ps) ≡ false → SoundLine text (line.Define f r ps)
+      → AllFalse (faults_from text globals more (Some (body_of text globals ps (inside_of behind))) behind) → ChainTo section.Start behind section.Outside → Each (SoundLine text) behind → Good (function_of f r ps behind)
   function_good names more f r ps behind h s a c sound =
       let inside : List Line = inside_of behind in
       let x : Looks = looks_of text globals ps inside in
       let entry : List ℕ = entry_name text ps in
       let F : Function = function_of f r ps behind in
-      let scope : Scope = scope_of n F in
-      let chain = inside_chain place.Start behind refl c in
+      let scope : NameCounts = scope_of n F in
+      let chain = inside_chain section.Start behind refl c in
       let g = inside_stated text globals more (body_of text globals ps inside) behind a in
       let t = each_take (SoundLine text) (prefix_len is_inner behind) behind sound in
-      let b = built text entry x place.Start inside chain.0 chain.1 g in
+      let b = built text entry x section.Start inside chain.0 chain.1 g in
       let vs = each_append (λ (e : List ℕ × Meaning). IsValue scope e.1) (params_from text 0 ps) (results_from text 0 inside)
-      (params_fit scope text x 0 ps (omega (arith, length-map ps (λ (p : Ty × Span). p.0)))) (results_fit scope text x [] 0 inside refl g t b.2) in
+      (params_fit scope text x 0 ps (omega (arith, length-map ps (λ (p : Ty × NameSpan). p.0)))) (results_fit scope text x [] 0 inside refl g t b.2) in
       let bs = blocks_fit scope text x entry true 0 inside (omega (arith, b.1)) in
       let fit : LooksFit scope x = record {
         values = λ name m e. look_each (IsValue scope) (values_of text ps inside) name m vs e;
@@ -160,32 +160,32 @@ module _ (text : List ℕ) (globals : List ℕ → Option Meaning) (n : ℕ) (kn
       let all = blocks_good scope x fit F.blocks orders.0 (subst (Each (InstFits scope x fit)) (sym b.2) (insts_good scope x fit inside g t)) in
       (and_from _ _ (and_from _ _ (and_from _ _ (and_from _ _ (function_named names f r ps h s) (result_good r s.1)) (types_good ps s.2)) orders.1) all.0, all.1)
 
-  functions_good : (p : Place) (names : List (List ℕ)) (function : Option Body) (ls : List Line) → ChainTo p ls place.Outside → Each (SoundLine text) ls → AllFalse (faults_from text globals names function ls)
+  functions_good : (p : Section) (names : List (List ℕ)) (function : Option Body) (ls : List Line) → ChainTo p ls section.Outside → Each (SoundLine text) ls → AllFalse (faults_from text globals names function ls)
       → (list_all (is_function n) (functions_in text globals ls) ≡ true) × (list_all is_function_in_range (functions_in text globals ls) ≡ true)
-  unfolding function_at body_begun is_inner place_after
+  unfolding function_at body_begun is_inner section_after
   functions_good p names function [] c s h = (refl, refl)
   functions_good p names function (line.Define f r ps ∷ ls) c s h =
       let l : Line = line.Define f r ps in
       let o = (or_parts (outer_fault text names l) (inner_fault function l) h.0).0 in
       let this = function_good names (names ++ option_to_list (outer_name text l)) f r ps ls o s.0 h.1 c.1 s.1 in
-      let more = functions_good place.Start (names ++ option_to_list (outer_name text l)) (Some (body_of text globals ps (inside_of ls))) ls c.1 s.1 h.1 in
+      let more = functions_good section.Start (names ++ option_to_list (outer_name text l)) (Some (body_of text globals ps (inside_of ls))) ls c.1 s.1 h.1 in
       (and_from _ _ this.0 more.0, and_from _ _ this.1 more.1)
-  functions_good p names function (l ∷ ls) c s h = functions_good (place_after p l) (names ++ option_to_list (outer_name text l)) (function_behind text globals function l ls) ls c.1 s.1 h.1
+  functions_good p names function (l ∷ ls) c s h = functions_good (section_after p l) (names ++ option_to_list (outer_name text l)) (function_behind text globals function l ls) ls c.1 s.1 h.1
 
-formed : (text : List ℕ) (ls : List Line) → ChainTo place.Outside ls place.Outside → Each (SoundLine text) ls → AllFalse (faults_from text (look (globals_from text 0 ls)) [] None ls) → is_counted (module_of text ls) ≡ true → IsModule (module_of text ls)
+formed : (text : List ℕ) (ls : List Line) → ChainTo section.Outside ls section.Outside → Each (SoundLine text) ls → AllFalse (faults_from text (look (globals_from text 0 ls)) [] None ls) → is_counted (module_of text ls) ≡ true → IsModule (module_of text ls)
 formed text ls c s h counts =
     let globals : List ℕ → Option Meaning = look (globals_from text 0 ls) in
     let n : ℕ = length (globals_in text ls) in
-    let known : (scope : Scope) → n ≤ scope.globals → (name : List ℕ) (m : Meaning) → globals name ≡ Some m → IsGlobal scope m =
+    let known : (scope : NameCounts) → n ≤ scope.globals → (name : List ℕ) (m : Meaning) → globals name ≡ Some m → IsGlobal scope m =
     λ scope few name m e. look_each (IsGlobal scope) (globals_from text 0 ls) name m (globals_fit scope text 0 ls (omega (arith, few))) e in
-    let fs = functions_good text globals n known place.Outside [] None ls c s h in
+    let fs = functions_good text globals n known section.Outside [] None ls c s h in
     let gs = globals_good text ls s in
     let d = differ text globals [] None ls h in
     record { formed = and_from _ _ (and_from _ _ d.1 gs.0) fs.0; numbers = and_from _ _ gs.1 fs.1; counts = counts }
 
 pub derived_module : (text : List ℕ) (m : Module) → Derives text m → IsModule m
 derived_module text m d =
-    let s = said_lines text place.Outside (lines_of text d.says.tokens) d.stated place.Outside d.says.are_lines (lines_sound text d.says.tokens d.says.are_tokens) in
+    let s = said_lines text section.Outside (lines_of text d.says.tokens) d.stated section.Outside d.says.are_lines (lines_sound text d.says.tokens d.says.are_tokens) in
     subst IsModule (sym d.is) (formed text d.stated s.0 s.1 d.names (subst (λ (x : Module). is_counted x ≡ true) d.is d.counts))
 
 pub all_well_formed : (text : List ℕ) (r : Result Module ReadFault) → IfOk r (λ m. Derives text m) → IfOk r IsModule

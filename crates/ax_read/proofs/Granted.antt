@@ -10,7 +10,7 @@ use Rattle.ax_module.specs.Ranges.{is_word, is_stated_word, is_in_range}
 use Rattle.ax_symbols.specs.declared.symbol.Sign.{Sign}
 use Rattle.ax_symbols.specs.declared.symbol.Sign.TheVariants as sign
 use Rattle.ax_symbols.specs.declared.vocabulary.Word.TheVariants as word
-use Rattle.ax_symbols.specs.declared.symbol.Span.{Span}
+use Rattle.ax_symbols.specs.declared.symbol.NameSpan.{NameSpan}
 use Rattle.ax_symbols.specs.declared.values.Value.{Value}
 use Rattle.ax_symbols.specs.declared.values.Value.TheVariants as value
 use Rattle.ax_lines.specs.declared.statement.Path.{Path}
@@ -65,7 +65,7 @@ const_sound name (sign.Word word.True) v ok e = subst SoundConst (same_Some (val
 const_sound name (sign.Word word.False) v ok e = subst SoundConst (same_Some (value.Const (pos 0)) v e) refl
 const_sound name _ v ok e = absurd cc
 
-value_sound : (name : List ℕ) (span : Span) (s : Sign) (v : Value) → SoundSign name s → value_in span s ≡ Some v → SoundValue v
+value_sound : (name : List ℕ) (span : NameSpan) (s : Sign) (v : Value) → SoundSign name s → value_in span s ≡ Some v → SoundValue v
 value_sound name span sign.Local v ok e = subst SoundValue (same_Some (value.Local span) v e) tt
 value_sound name span (sign.Number negative n) v ok e = const_value v (const_sound name (sign.Number negative n) v ok e)
 value_sound name span (sign.Word w) v ok e = const_value v (const_sound name (sign.Word w) v ok e)
@@ -113,7 +113,7 @@ SoundStatement text (statement.Bin op t v u) = (is_type t ≡ true) × SoundValu
 SoundStatement text (statement.Icmp pred t v u) = (is_type t ≡ true) × SoundValue v × SoundValue u
 SoundStatement text (statement.Select v t u s w) = SoundValue v × (is_type t ≡ true) × SoundValue u × (is_type s ≡ true) × SoundValue w
 SoundStatement text (statement.Convert cast from v to) = (is_type from ≡ true) × SoundValue v × (is_type to ≡ true)
-SoundStatement text (statement.Phi t ps) = (is_type t ≡ true) × Each (λ (p : Value × Span). SoundValue p.0) ps × (is_nonempty ps ≡ true)
+SoundStatement text (statement.Phi t ps) = (is_type t ≡ true) × Each (λ (p : Value × NameSpan). SoundValue p.0) ps × (is_nonempty ps ≡ true)
 SoundStatement text (statement.Jump s) = Unit {0}
 SoundStatement text (statement.Branch v s r) = SoundValue v
 SoundStatement text statement.RetVoid = Unit {0}

@@ -15,7 +15,7 @@ use Rattle.ax_symbols.specs.declared.symbol.Sign.{Sign}
 use Rattle.ax_symbols.specs.declared.symbol.Sign.TheVariants as sign
 use Rattle.ax_symbols.specs.declared.vocabulary.Word.TheVariants as word
 use Rattle.ax_symbols.specs.declared.symbol.Punctuation.TheVariants as mark
-use Rattle.ax_symbols.specs.declared.symbol.Span.{Span}
+use Rattle.ax_symbols.specs.declared.symbol.NameSpan.{NameSpan}
 use Rattle.ax_symbols.specs.declared.symbol.Symbol.{Symbol}
 use Rattle.ax_symbols.specs.declared.values.Value.{Value}
 use Rattle.ax_symbols.specs.declared.values.Value.TheVariants as value
@@ -25,8 +25,8 @@ use Rattle.ax_lines.specs.declared.statement.Statement.{Statement}
 use Rattle.ax_lines.specs.declared.statement.Statement.TheVariants as statement
 use Rattle.ax_lines.specs.declared.statement.Line.{Line}
 use Rattle.ax_lines.specs.declared.statement.Line.TheVariants as line
-use Rattle.ax_lines.specs.declared.statement.Place.{Place}
-use Rattle.ax_lines.specs.declared.statement.Place.TheVariants as place
+use Rattle.ax_lines.specs.declared.statement.Section.{Section}
+use Rattle.ax_lines.specs.declared.statement.Section.TheVariants as section
 use Rattle.ax_symbols.specs.Pieces.{sign_at, one_at, simple_type, simple_type_of, closed, is_greater, opens_vector, type_at, global_in, callee_in, value_in}
 use Rattle.ax_symbols.specs.Grammar.{Grammar, then, one, typed, option, by, Splits, Derives}
 use Rattle.ax_lines.specs.Productions as p
@@ -37,33 +37,33 @@ use Rattle.ax_read.proofs.Grants.{Each, each_behind, SoundSign, IsSound, Grants,
 use Rattle.ax_read.proofs.Granted.{SoundValue, SoundConst, const_sound, SoundArgument, SoundStatement, states_result, OtherValued, Plain, count_word, const_is, value_is, maybe_pass, alignment_is, result_type_is, elements_is, pointer_behind_is, binary_is, comparison_is, selection_is, conversion_is, phi_is, alloca_is, getelementptr_is, atomic_load_is, plain_load_is, exchange_is, modification_is, extraction_is, atomic_store_is, plain_store_is, fence_is, jump_is, branch_is, return_void_is, return_value_is, unreachable_is}
 
 -- where a line may stand
-abbrev pub may : Place → Line → Bool
-may place.Outside line.Nothing = true
-may place.Outside (line.Global g t c vs a) = true
-may place.Outside (line.Define f r ps) = true
-may place.Start line.Nothing = true
-may place.Start (line.Label n) = true
-may place.Start (line.Inst r s) = true
-may place.Phis line.Nothing = true
-may place.Phis (line.Inst r s) = true
-may place.Inside line.Nothing = true
-may place.Inside (line.Inst r s) = not (is_phi s)
-may place.Ended line.Nothing = true
-may place.Ended (line.Label n) = true
-may place.Ended line.Close = true
+abbrev pub may : Section → Line → Bool
+may section.Outside line.Nothing = true
+may section.Outside (line.Global g t c vs a) = true
+may section.Outside (line.Define f r ps) = true
+may section.Start line.Nothing = true
+may section.Start (line.Label n) = true
+may section.Start (line.Inst r s) = true
+may section.Phis line.Nothing = true
+may section.Phis (line.Inst r s) = true
+may section.Inside line.Nothing = true
+may section.Inside (line.Inst r s) = not (is_phi s)
+may section.Ended line.Nothing = true
+may section.Ended (line.Label n) = true
+may section.Ended line.Close = true
 may _ _ = false
 
-abbrev pub ResultFits : Option Span → Statement → Type 0
+abbrev pub ResultFits : Option NameSpan → Statement → Type 0
 ResultFits None s = Unit {0}
 ResultFits (Some r) s = states_result s ≡ true
 
-fits : (r : Option Span) (s : Statement) → states_result s ≡ true → ResultFits r s
+fits : (r : Option NameSpan) (s : Statement) → states_result s ≡ true → ResultFits r s
 fits None s h = tt
 fits (Some r) s h = h
 
 abbrev pub SoundLine : List ℕ → Line → Type 0
 SoundLine text (line.Global g t c vs a) = (is_global_name (text_at text g) ≡ true) × (is_type t ≡ true) × (is_word c ≡ true) × (is_stated_word a ≡ true) × Each SoundConst vs × (is_init c (map constant_of vs) ≡ true)
-SoundLine text (line.Define f r ps) = (is_name (text_at text f) ≡ true) × (is_result_type r ≡ true) × Each (λ (p : Ty × Span). is_type p.0 ≡ true) ps
+SoundLine text (line.Define f r ps) = (is_name (text_at text f) ≡ true) × (is_result_type r ≡ true) × Each (λ (p : Ty × NameSpan). is_type p.0 ≡ true) ps
 SoundLine text (line.Inst r s) = SoundStatement text s × ResultFits r s
 SoundLine text _ = Unit {0}
 
@@ -132,7 +132,7 @@ argument_sound : (t : Ty) (v : Value) → is_ptr t ≡ false → is_type t ≡ t
 argument_sound ty.Ptr v e h g = absurd (true≢false e)
 argument_sound _ v e h g = (h, g)
 
-value_const : (name : List ℕ) (span : Span) (s : Sign) (v : Value) → begins_pointer s ≡ false → SoundSign name s → value_in span s ≡ Some v → SoundConst v
+value_const : (name : List ℕ) (span : NameSpan) (s : Sign) (v : Value) → begins_pointer s ≡ false → SoundSign name s → value_in span s ≡ Some v → SoundConst v
 value_const name span sign.Local v b ok e = absurd (true≢false b)
 value_const name span (sign.Number negative n) v b ok e = const_sound name (sign.Number negative n) v ok e
 value_const name span (sign.Word w) v b ok e = const_sound name (sign.Word w) v ok e
@@ -185,22 +185,22 @@ kept_init c vs h f = by (list_all p.is_zero vs) refl
 
 -- ---- names
 
-global_named : (text : List ℕ) (name g : Span) (s : Sign) → SoundSign (text_at text name) s → global_in name s ≡ Some g → is_name (text_at text g) ≡ true
-global_named text name g sign.Global ok e = subst (λ (x : Span). is_name (text_at text x) ≡ true) (same_Some name g e) ok.0
-global_named text name g sign.Intrinsic ok e = subst (λ (x : Span). is_name (text_at text x) ≡ true) (same_Some name g e) ok.0
-global_named text name g sign.Lifetime ok e = subst (λ (x : Span). is_name (text_at text x) ≡ true) (same_Some name g e) ok
+global_named : (text : List ℕ) (name g : NameSpan) (s : Sign) → SoundSign (text_at text name) s → global_in name s ≡ Some g → is_name (text_at text g) ≡ true
+global_named text name g sign.Global ok e = subst (λ (x : NameSpan). is_name (text_at text x) ≡ true) (same_Some name g e) ok.0
+global_named text name g sign.Intrinsic ok e = subst (λ (x : NameSpan). is_name (text_at text x) ≡ true) (same_Some name g e) ok.0
+global_named text name g sign.Lifetime ok e = subst (λ (x : NameSpan). is_name (text_at text x) ≡ true) (same_Some name g e) ok
 global_named text name g _ ok e = absurd cc
 
-global_is_named : (text : List ℕ) (name g : Span) (s : Sign) → s ≡ sign.Global → SoundSign (text_at text name) s → global_in name s ≡ Some g → is_global_name (text_at text g) ≡ true
+global_is_named : (text : List ℕ) (name g : NameSpan) (s : Sign) → s ≡ sign.Global → SoundSign (text_at text name) s → global_in name s ≡ Some g → is_global_name (text_at text g) ≡ true
 global_is_named text name g s is ok e =
     let o = subst (SoundSign (text_at text name)) is ok in
     let f = subst (λ (x : Sign). global_in name x ≡ Some g) is e in
-    subst (λ (x : Span). is_global_name (text_at text x) ≡ true) (same_Some name g f) (and_from _ _ o.0 (not_from_false _ o.1))
+    subst (λ (x : NameSpan). is_global_name (text_at text x) ≡ true) (same_Some name g f) (and_from _ _ o.0 (not_from_false _ o.1))
 
-abbrev CalleeFits : List ℕ → Span × Bool → Type 0
+abbrev CalleeFits : List ℕ → NameSpan × Bool → Type 0
 CalleeFits text f = f.1 ≡ false → is_callee_name (text_at text f.0) ≡ true
 
-callee_named : (text : List ℕ) (name : Span) (f : Span × Bool) (s : Sign) → SoundSign (text_at text name) s → callee_in name s ≡ Some f → CalleeFits text f
+callee_named : (text : List ℕ) (name : NameSpan) (f : NameSpan × Bool) (s : Sign) → SoundSign (text_at text name) s → callee_in name s ≡ Some f → CalleeFits text f
 callee_named text name f sign.Global ok e = subst (CalleeFits text) (same_Some (name, false) f e) (λ _. and_from _ _ ok.0 (not_from_false _ ok.2))
 callee_named text name f sign.Intrinsic ok e = subst (CalleeFits text) (same_Some (name, false) f e) (λ _. and_from _ _ ok.0 (not_from_false _ ok.1))
 callee_named text name f sign.Lifetime ok e = subst (CalleeFits text) (same_Some (name, true) f e) (λ h. absurd (true≢false h))
@@ -219,7 +219,7 @@ calls only line.Nothing = true
 calls only (line.Inst r s) = not only && not (is_phi s)
 calls only _ = false
 
-abbrev pub GoodLine : List ℕ → Place → Line → Type 0
+abbrev pub GoodLine : List ℕ → Section → Line → Type 0
 GoodLine text p x = SoundLine text x × (may p x ≡ true)
 
 abbrev InBlock : List ℕ → Bool → Line → Type 0
@@ -233,7 +233,7 @@ record GrantsIf (text : List ℕ) (C : List Symbol → Type 0) {V : Type 0} (g :
   pub holds : (line rest : List Symbol) (v : V) → C line → Each (IsSound text) line → Derives g line v rest → Q v × Each (IsSound text) rest
 
 module _ (text : List ℕ) where
-  call_fits : (only : Bool) (r : Option Span) (t : Option Ty) (f : Span) (arguments : List Argument) → is_result_type t ≡ true → is_callee_name (text_at text f) ≡ true → Each SoundArgument arguments → may_have r t && (not only || false) ≡ true
+  call_fits : (only : Bool) (r : Option NameSpan) (t : Option Ty) (f : NameSpan) (arguments : List Argument) → is_result_type t ≡ true → is_callee_name (text_at text f) ≡ true → Each SoundArgument arguments → may_have r t && (not only || false) ≡ true
       → IsCall text only (line.Inst r (statement.Call t f arguments))
   unfolding is_phi
   call_fits true None t f arguments h n a w = absurd cc
@@ -243,7 +243,7 @@ module _ (text : List ℕ) where
   call_fits false (Some r) None f arguments h n a w = absurd cc
   call_fits false (Some r) (Some t) f arguments h n a w = (((h, n, a), refl), refl)
 
-  call_good : (only : Bool) (r : Option Span) (t : Option Ty) (f : Span × Bool) (arguments : List Argument) → is_result_type t ≡ true → CalleeFits text f → Each SoundArgument arguments → may_have r t && (not only || f.1) ≡ true
+  call_good : (only : Bool) (r : Option NameSpan) (t : Option Ty) (f : NameSpan × Bool) (arguments : List Argument) → is_result_type t ≡ true → CalleeFits text f → Each SoundArgument arguments → may_have r t && (not only || f.1) ≡ true
       → IsCall text only (call_states r t f arguments)
   call_good only r t f arguments h n a w = by f.1 refl
     where
@@ -256,22 +256,22 @@ module _ (text : List ℕ) where
   call_in phis (line.Inst r s) h = (h.0, or_right phis (not (is_phi s)) h.1)
   call_in phis _ h = absurd (false≢true h.1)
 
-  at_start_may : (x : Line) → InBlock text true x → GoodLine text place.Start x
+  at_start_may : (x : Line) → InBlock text true x → GoodLine text section.Start x
   at_start_may line.Nothing h = (tt, refl)
   at_start_may (line.Inst r s) h = (h.0, refl)
   at_start_may _ h = absurd (false≢true h.1)
 
-  at_phis_may : (x : Line) → InBlock text true x → GoodLine text place.Phis x
+  at_phis_may : (x : Line) → InBlock text true x → GoodLine text section.Phis x
   at_phis_may line.Nothing h = (tt, refl)
   at_phis_may (line.Inst r s) h = (h.0, refl)
   at_phis_may _ h = absurd (false≢true h.1)
 
-  inside_may : (x : Line) → InBlock text false x → GoodLine text place.Inside x
+  inside_may : (x : Line) → InBlock text false x → GoodLine text section.Inside x
   inside_may line.Nothing h = (tt, refl)
   inside_may (line.Inst r s) h = (h.0, h.1)
   inside_may _ h = absurd (false≢true h.1)
 
-  ended_may : (x : Line) → IsCall text true x → GoodLine text place.Ended x
+  ended_may : (x : Line) → IsCall text true x → GoodLine text section.Ended x
   ended_may line.Nothing h = (tt, refl)
   ended_may _ h = absurd (false≢true h.1)
 
@@ -368,9 +368,9 @@ module _ {text : List ℕ} where
     h ← when_holds
     granted (vs.1.0, count_fits c vs.0 h.1))
 
-  global_line_is : GrantsIf text (λ line. sign_at line 0 ≡ sign.Global) global_line (GoodLine text place.Outside)
+  global_line_is : GrantsIf text (λ line. sign_at line 0 ≡ sign.Global) global_line (GoodLine text section.Outside)
   unfolding global_line
-  global_line_is = begins {Q = λ (g : Span). is_global_name (text_at text g) ≡ true} sign.Global (λ s g is ok e. global_is_named text s.name g s.sign is ok e) (λ g. do
+  global_line_is = begins {Q = λ (g : NameSpan). is_global_name (text_at text g) ≡ true} sign.Global (λ s g is ok e. global_is_named text s.name g s.sign is ok e) (λ g. do
     signs_pass
     passed_pass
     signs_pass
@@ -387,13 +387,13 @@ module _ {text : List ℕ} where
     q ← one_pass
     granted t.1
 
-  define_line_is : Grants text define_line (GoodLine text place.Outside)
+  define_line_is : Grants text define_line (GoodLine text section.Outside)
   unfolding define_line
   define_line_is = do
     signs_pass
     passed_pass
     r ← result_type_is
-    f ← one_is {Q = λ (f : Span). is_name (text_at text f) ≡ true} (λ s f ok e. global_named text s.name f s.sign ok e)
+    f ← one_is {Q = λ (f : NameSpan). is_name (text_at text f) ≡ true} (λ s f ok e. global_named text s.name f s.sign ok e)
     signs_pass
     ps ← items_is parameter_is
     signs_pass
@@ -401,24 +401,24 @@ module _ {text : List ℕ} where
     signs_pass
     granted ((f.1, r.1, ps.1), refl)
 
-  nothing_is : (at : Place) → Grants text blank (GoodLine text at)
+  nothing_is : (at : Section) → Grants text blank (GoodLine text at)
   unfolding blank
-  nothing_is place.Outside = do
+  nothing_is section.Outside = do
     ends_pass
     granted (tt, refl)
   nothing_is _ = do
     ends_pass
     granted (tt, refl)
 
-  passed_line_is : Grants text passed_line (GoodLine text place.Outside)
+  passed_line_is : Grants text passed_line (GoodLine text section.Outside)
   unfolding passed_line
   passed_line_is = do
     whole_pass
     granted (tt, refl)
 
-  outside_is : (a b : Sign) → GrantsIf text (λ line. sign_at line 0 ≡ a) (outside a b) (GoodLine text place.Outside)
+  outside_is : (a b : Sign) → GrantsIf text (λ line. sign_at line 0 ≡ a) (outside a b) (GoodLine text section.Outside)
   unfolding outside
-  outside_is sign.Feed b = anyway (nothing_is place.Outside)
+  outside_is sign.Feed b = anyway (nothing_is section.Outside)
   outside_is (sign.Word word.SourceFilename) b = anyway passed_line_is
   outside_is (sign.Word word.Target) b = anyway passed_line_is
   outside_is (sign.Word word.Declare) b = anyway passed_line_is
@@ -433,7 +433,7 @@ module _ {text : List ℕ} where
 
   -- ---- in functions
 
-  states_is : {g : Grammar Statement} (phis : Bool) (r : Option Span) → Grants text g (OtherValued text) → Grants text (states r g) (InBlock text phis)
+  states_is : {g : Grammar Statement} (phis : Bool) (r : Option NameSpan) → Grants text g (OtherValued text) → Grants text (states r g) (InBlock text phis)
   states_is phis r g = do
     s ← g
     granted ((s.1.0, fits r s.0 s.1.1), or_right phis (not (is_phi s.0)) (not_from_false _ s.1.2))
@@ -443,7 +443,7 @@ module _ {text : List ℕ} where
     s ← g
     granted ((s.1.0, tt), or_right phis (not (is_phi s.0)) (not_from_false _ s.1.1))
 
-  phis_are : (phis : Bool) (r : Option Span) → Grants text (states r (phi_line phis)) (InBlock text phis)
+  phis_are : (phis : Bool) (r : Option NameSpan) → Grants text (states r (phi_line phis)) (InBlock text phis)
   phis_are true r = do
     s ← phi_is
     granted ((s.1.0, fits r s.0 s.1.1), refl)
@@ -467,7 +467,7 @@ module _ {text : List ℕ} where
   return_is (sign.Word word.Void) = return_void_is
   return_is _ = return_value_is
 
-  call_is : (only : Bool) (r : Option Span) → Grants text (call only r) (IsCall text only)
+  call_is : (only : Bool) (r : Option NameSpan) → Grants text (call only r) (IsCall text only)
   unfolding call
   call_is only r = do
     maybe_pass
@@ -483,10 +483,10 @@ module _ {text : List ℕ} where
     h ← when_holds
     granted (call_good text only r t.0 f.0 arguments.0 t.1 f.1 arguments.1 h.1)
 
-  call_line_is : (phis : Bool) (r : Option Span) → Grants text (call false r) (InBlock text phis)
+  call_line_is : (phis : Bool) (r : Option NameSpan) → Grants text (call false r) (InBlock text phis)
   call_line_is phis r = weaker (call_is false r) (call_in text phis)
 
-  valued_is : (phis : Bool) (r : Option Span) (a b : Sign) → Grants text (valued phis r a b) (InBlock text phis)
+  valued_is : (phis : Bool) (r : Option NameSpan) (a b : Sign) → Grants text (valued phis r a b) (InBlock text phis)
   unfolding valued
   valued_is phis r (sign.Word word.Add) b = states_is phis r binary_is
   valued_is phis r (sign.Word word.Sub) b = states_is phis r binary_is
@@ -546,38 +546,38 @@ module _ {text : List ℕ} where
   in_block_is phis sign.Local b = named_is phis
   in_block_is phis a b = unnamed_is phis a b
 
-  label_at : (at : Place) → ((n : Span) → may at (line.Label n) ≡ true) → Grants text label_line (GoodLine text at)
+  label_at : (at : Section) → ((n : NameSpan) → may at (line.Label n) ≡ true) → Grants text label_line (GoodLine text at)
   unfolding label_line
   label_at at f = do
     b ← one_pass
     signs_pass
     granted (tt, f b.0)
 
-  close_is : Grants text close_line (GoodLine text place.Ended)
+  close_is : Grants text close_line (GoodLine text section.Ended)
   unfolding close_line
   close_is = do
     signs_pass
     granted (tt, refl)
 
-  named_call_is : Grants text named_call (GoodLine text place.Ended)
+  named_call_is : Grants text named_call (GoodLine text section.Ended)
   unfolding named_call
   named_call_is = do
     r ← result_is
     weaker (call_is true (Some r.0)) (ended_may text)
 
-  between_is : (a : Sign) → Grants text (between a) (GoodLine text place.Ended)
+  between_is : (a : Sign) → Grants text (between a) (GoodLine text section.Ended)
   unfolding between
-  between_is sign.Feed = nothing_is place.Ended
+  between_is sign.Feed = nothing_is section.Ended
   between_is (sign.Mark mark.CloseBrace) = close_is
   between_is (sign.Word word.Call) = weaker (call_is true None) (ended_may text)
   between_is (sign.Word word.Tail) = weaker (call_is true None) (ended_may text)
   between_is sign.Local = named_call_is
   between_is _ = none_is
 
-  pub line_is : (at : Place) → Grants text (line_at at) (GoodLine text at)
+  pub line_is : (at : Section) → Grants text (line_at at) (GoodLine text at)
   unfolding line_at
-  line_is place.Outside = by_line outside_is
-  line_is place.Start = by_is (λ a b. cond_is (is_label a b) (label_at place.Start (λ n. refl)) (weaker (in_block_is true a b) (at_start_may text)))
-  line_is place.Phis = by_is (λ a b. weaker (in_block_is true a b) (at_phis_may text))
-  line_is place.Inside = by_is (λ a b. weaker (in_block_is false a b) (inside_may text))
-  line_is place.Ended = by_is (λ a b. cond_is (is_label a b) (label_at place.Ended (λ n. refl)) (between_is a))
+  line_is section.Outside = by_line outside_is
+  line_is section.Start = by_is (λ a b. cond_is (is_label a b) (label_at section.Start (λ n. refl)) (weaker (in_block_is true a b) (at_start_may text)))
+  line_is section.Phis = by_is (λ a b. weaker (in_block_is true a b) (at_phis_may text))
+  line_is section.Inside = by_is (λ a b. weaker (in_block_is false a b) (inside_may text))
+  line_is section.Ended = by_is (λ a b. cond_is (is_label a b) (label_at section.Ended (λ n. refl)) (between_is a))

@@ -14,9 +14,9 @@ use Rattle.ax_module.specs.declared.inst.Inst.{Inst}
 use Rattle.ax_module.specs.declared.inst.Inst.TheVariants as inst
 use Rattle.ax_module.specs.Types.{type_bytes}
 use Rattle.ax_module.specs.Kinds.{is_phi, is_terminator, has_result}
-use Rattle.ax_module.specs.WellFormed.{Scope, is_type, is_value, is_operand, is_base, is_addr, is_arg, is_entry, is_nonempty, is_inst}
+use Rattle.ax_module.specs.WellFormed.{NameCounts, is_type, is_value, is_operand, is_base, is_addr, is_arg, is_entry, is_nonempty, is_inst}
 use Rattle.ax_module.specs.Ranges.{is_word, is_stated_word, is_in_range, is_addr_in_range, is_arg_in_range, is_inst_in_range}
-use Rattle.ax_symbols.specs.declared.symbol.Span.{Span}
+use Rattle.ax_symbols.specs.declared.symbol.NameSpan.{NameSpan}
 use Rattle.ax_symbols.specs.declared.values.Value.{Value}
 use Rattle.ax_symbols.specs.declared.values.Value.TheVariants as value
 use Rattle.ax_symbols.specs.declared.values.Base.{Base as NamedBase}
@@ -107,21 +107,21 @@ kind_is x (statement.Call (Some t) s arguments) = one (λ args. inst.Call (Some 
 
 -- ---- names of a scope
 
-abbrev pub IsValue : Scope → Meaning → Type 0
+abbrev pub IsValue : NameCounts → Meaning → Type 0
 IsValue scope (meaning.Value k) = is_value scope k ≡ true
 IsValue scope (meaning.Param k) = nat_lt k scope.params ≡ true
 IsValue scope _ = Unit {0}
 
-abbrev pub IsGlobal : Scope → Meaning → Type 0
+abbrev pub IsGlobal : NameCounts → Meaning → Type 0
 IsGlobal scope (meaning.Global k) = nat_lt k scope.globals ≡ true
 IsGlobal scope _ = Unit {0}
 
-abbrev pub IsBlock : Scope → Meaning → Type 0
+abbrev pub IsBlock : NameCounts → Meaning → Type 0
 IsBlock scope (meaning.Block k) = nat_lt k scope.blocks ≡ true
 IsBlock scope _ = Unit {0}
 
 -- each name stands for what the scope has
-pub record LooksFit (scope : Scope) (x : Looks) : Type 0 where
+pub record LooksFit (scope : NameCounts) (x : Looks) : Type 0 where
   pub values : (name : List ℕ) (m : Meaning) → x.values name ≡ Some m → IsValue scope m
   pub globals : (name : List ℕ) (m : Meaning) → x.globals name ≡ Some m → IsGlobal scope m
   pub blocks : (name : List ℕ) (m : Meaning) → x.blocks name ≡ Some m → IsBlock scope m
@@ -139,7 +139,7 @@ alignment_word : (t : Ty) (o : Option ℕ) → is_type t ≡ true → is_stated_
 alignment_word t None h g = bytes_word t h
 alignment_word t (Some a) h g = g
 
-module _ (scope : Scope) (x : Looks) (fit : LooksFit scope x) where
+module _ (scope : NameCounts) (x : Looks) (fit : LooksFit scope x) where
   abbrev OperandFits : Operand → Type 0
   OperandFits o = (is_operand scope o ≡ true) × (is_in_range o ≡ true)
 
@@ -183,7 +183,7 @@ module _ (scope : Scope) (x : Looks) (fit : LooksFit scope x) where
   block_found (Some (meaning.Block k)) f = found (f (meaning.Block k) refl)
   block_found (Some _) f = record { holds = λ a e. absurd cc }
 
-  block_fits : (s : Span) → Meets (block_of x s) (λ b. nat_lt b scope.blocks ≡ true)
+  block_fits : (s : NameSpan) → Meets (block_of x s) (λ b. nat_lt b scope.blocks ≡ true)
   block_fits s = block_found (x.blocks (text_at x.text s)) (fit.blocks (text_at x.text s))
 
   addr_fits : (p : Pointer) → SoundPointer p → Meets (addr_of x p) AddrFits
@@ -204,7 +204,7 @@ module _ (scope : Scope) (x : Looks) (fit : LooksFit scope x) where
   args_fit [] h = found (refl, refl)
   args_fit (a ∷ rest) h = two (λ this more. this ∷ more) (arg_fits a h.0) (args_fit rest h.1) (λ this more. (rw (this.1.0, more.1.0) refl, rw (this.1.1, more.1.1) refl))
 
-  incoming_fit : (ps : List (Value × Span)) → Each (λ (p : Value × Span). SoundValue p.0) ps → Meets (incoming_of x ps) (λ es. (list_all (is_entry scope) es ≡ true) × (list_all (λ e. is_in_range e.0) es ≡ true) × (is_nonempty es ≡ is_nonempty ps))
+  incoming_fit : (ps : List (Value × NameSpan)) → Each (λ (p : Value × NameSpan). SoundValue p.0) ps → Meets (incoming_of x ps) (λ es. (list_all (is_entry scope) es ≡ true) × (list_all (λ e. is_in_range e.0) es ≡ true) × (is_nonempty es ≡ is_nonempty ps))
   incoming_fit [] h = found (refl, refl, refl)
   incoming_fit (p ∷ ps) h = three (λ v b more. (v, b) ∷ more) (operand_fits p.0 h.0) (block_fits p.1) (incoming_fit ps h.1) (λ v b more. (rw (v.1.0, b.1, more.1.0) refl, rw (v.1.1, more.1.1) refl, refl))
 

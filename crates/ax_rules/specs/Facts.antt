@@ -15,7 +15,7 @@ use Rattle.ax_rules.specs.declared.facts.Outcome.{Outcome}
 use Rattle.ax_rules.specs.declared.facts.Outcome.TheVariants as outcome
 use Rattle.ax_rules.specs.declared.facts.Origin.{Origin}
 use Rattle.ax_rules.specs.declared.facts.Origin.TheVariants as origin
-use Rattle.ax_rules.specs.declared.facts.Scope.{Scope}
+use Rattle.ax_rules.specs.declared.facts.FunctionScope.{FunctionScope}
 
 abbrev pub part_type : Ty → ℕ → Ty
 part_type t part = if nat_eq part 0 then t else I1
@@ -45,10 +45,10 @@ abbrev pub extent_of_global : Global → Extent
 extent_of_global variable = record { elem = variable.elem; count = variable.count }
 
 -- what a function's instructions can name
-abbrev pub scope_of : Module → Function → Scope
+abbrev pub scope_of : Module → Function → FunctionScope
 scope_of m f = record { globals = map extent_of_global m.globals; params = f.params; outcomes = map outcome_of (insts_of f) }
 
-abbrev pub outcome_at : Scope → ℕ → Outcome
+abbrev pub outcome_at : FunctionScope → ℕ → Outcome
 outcome_at scope k = slice_index_or scope.outcomes k outcome.Nothing
 
 -- the base of a getelementptr comes from a global or an alloca, and not from a getelementptr
@@ -56,18 +56,18 @@ abbrev pub origin_of_alloca : ℕ → Outcome → Origin
 origin_of_alloca k (outcome.Alloca e) = origin.Alloca k
 origin_of_alloca k _ = origin.Neither
 
-abbrev pub origin_of_step : Scope → Base → Origin
+abbrev pub origin_of_step : FunctionScope → Base → Origin
 origin_of_step scope (base.Global g) = origin.Global g
 origin_of_step scope (base.Value k) = origin_of_alloca k (outcome_at scope k)
 origin_of_step scope (base.Param k) = origin.Neither
 
 -- a pointer comes from what its base is, or where that is a getelementptr, from that one's base
-abbrev pub origin_of_value : Scope → ℕ → Outcome → Origin
+abbrev pub origin_of_value : FunctionScope → ℕ → Outcome → Origin
 origin_of_value scope k (outcome.Alloca e) = origin.Alloca k
 origin_of_value scope k (outcome.Gep b elem t v) = origin_of_step scope b
 origin_of_value scope k _ = origin.Neither
 
-abbrev pub origin_of : Scope → Base → Origin
+abbrev pub origin_of : FunctionScope → Base → Origin
 origin_of scope (base.Global g) = origin.Global g
 origin_of scope (base.Value k) = origin_of_value scope k (outcome_at scope k)
 origin_of scope (base.Param k) = origin.Neither
@@ -77,7 +77,7 @@ abbrev pub extent_of_outcome : Outcome → Option Extent
 extent_of_outcome (outcome.Alloca e) = Some e
 extent_of_outcome _ = None
 
-abbrev pub extent_of : Scope → Origin → Option Extent
+abbrev pub extent_of : FunctionScope → Origin → Option Extent
 extent_of scope (origin.Global g) = slice_get scope.globals g
 extent_of scope (origin.Alloca k) = extent_of_outcome (outcome_at scope k)
 extent_of scope origin.Neither = None

@@ -10,7 +10,8 @@ use Rattle.ax_module.specs.declared.operand.Operand.{Operand}
 use Rattle.ax_module.specs.declared.types.Ty.{Ty}
 use Rattle.ax_module.specs.Kinds.{is_phi}
 use Rattle.ax_module.specs.Types.{type_bytes}
-use Rattle.ax_layout.specs.Layout.{end_of_span, globals_limit, globals_start, is_alignment, next_multiple, span_after}
+use Rattle.ax_map.specs.Map.{globals_limit, globals_start}
+use Rattle.ax_layout.specs.Layout.{end_of_span, is_alignment, next_multiple, span_after}
 use Rattle.ax_rules.specs.Constants.{fits_type}
 use Rattle.ax_rules.specs.Parts.{operands_of}
 
@@ -33,7 +34,7 @@ is_beyond (t, v) = not (fits_type t v)
 abbrev pub limit_fault : Inst → Bool
 limit_fault i = not (is_alignment (alignment_in i)) || list_any is_beyond (operands_of i)
 
--- whether global g is the first of these that ends past 0x110000, behind what ends at an address
+-- whether global g is the first of these that ends past the limit, behind what ends at an address
 abbrev pub passes_first : ℕ → List Global → ℕ → Bool
 passes_first end [] g = false
 passes_first end (v ∷ vs) g =

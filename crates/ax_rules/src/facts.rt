@@ -35,7 +35,7 @@ pub enum Origin {
 /// What the instructions of a function can name: the globals of its module by their elements, its
 /// parameters by their types, and the results of its instructions.
 #[derive(Drop)]
-pub struct Scope {
+pub struct FunctionScope {
     pub globals: Items<Extent>,
     pub params: Items<Ty>,
     pub outcomes: Items<Outcome>,

@@ -6,11 +6,11 @@ ghost use Rattle.ax_rules.specs.Kind.{is_bad_gep, is_bad_pointer, is_gep, is_obj
 ghost use Rattle.ax_rules.specs.Parts.{AreParts};
 ghost use Rattle.ax_rules.specs.Points.{signature_of};
 
-use crate::facts::{Outcome, Parts, Scope};
+use crate::facts::{FunctionScope, Outcome, Parts};
 use crate::types::is_other;
 use ax_module::{Addr, Base, Function, Inst, Ty, module};
 
-fn is_gep(scope: &Scope, base: Base) -> bool
+fn is_gep(scope: &FunctionScope, base: Base) -> bool
     ensures { result ≡ is_gep scope.now base }
 {
     match base {
@@ -19,7 +19,7 @@ fn is_gep(scope: &Scope, base: Base) -> bool
     }
 }
 
-fn is_object(scope: &Scope, base: Base) -> bool
+fn is_object(scope: &FunctionScope, base: Base) -> bool
     ensures { result ≡ is_object scope.now base }
 {
     match base {
@@ -29,14 +29,14 @@ fn is_object(scope: &Scope, base: Base) -> bool
     }
 }
 
-fn is_bad_pointer(scope: &Scope, a: Addr) -> bool
+fn is_bad_pointer(scope: &FunctionScope, a: Addr) -> bool
     ensures { result ≡ is_bad_pointer scope.now a }
 {
     !(is_object(scope, a.base) || a.step.is_none() && is_gep(scope, a.base))
 }
 
 #[tactic(auto, unfolding(crate::specs::Kind::is_bad_gep))]
-fn is_bad_gep(scope: &Scope, inst: &Inst) -> bool
+fn is_bad_gep(scope: &FunctionScope, inst: &Inst) -> bool
     ensures { result ≡ is_bad_gep scope.now inst.now }
 {
     match inst {
@@ -51,7 +51,7 @@ fn any_other(types: &[Ty]) -> bool
     types.iter().any(|t| is_other(*t))
 }
 
-fn any_bad_pointer(scope: &Scope, pointers: &[Addr]) -> bool
+fn any_bad_pointer(scope: &FunctionScope, pointers: &[Addr]) -> bool
     ensures { result ≡ list_any (is_bad_pointer scope.now) pointers.now }
 {
     pointers.iter().any(|a| is_bad_pointer(scope, *a))
@@ -59,7 +59,7 @@ fn any_bad_pointer(scope: &Scope, pointers: &[Addr]) -> bool
 
 /// N2: whether an instruction has a type that no value has, or a pointer that comes from neither a
 /// global nor an alloca, or by two getelementptrs.
-pub fn has_kind(scope: &Scope, parts: &Parts, inst: &Inst) -> bool
+pub fn has_kind(scope: &FunctionScope, parts: &Parts, inst: &Inst) -> bool
     requires { AreParts parts.now inst.now }
     ensures { result ≡ kind_fault scope.now inst.now }
 {

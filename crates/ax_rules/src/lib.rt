@@ -12,5 +12,5 @@ pub mod scope;
 pub mod types;
 pub mod width;
 
-pub use facts::{Extent, Origin, Outcome, Parts, Scope, Shape};
+pub use facts::{Extent, FunctionScope, Origin, Outcome, Parts, Shape};
 pub use rule::Rule;

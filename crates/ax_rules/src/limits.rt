@@ -3,6 +3,7 @@
 ghost use Rattle.std.specs.Prelude.{◌≡◌, ◌≤◌, ◌<◌, ◌+◌, not, IsTrue, MatchOption, All, sum_by, nat_lt};
 ghost use Rattle.std.specs.List.{list_any};
 ghost use Rattle.ax_module.specs.Ranges.{is_in_range};
+ghost use Rattle.ax_map.specs.Map.{globals_limit};
 ghost use Rattle.ax_layout.specs.Layout.{end_of_span, is_alignment, next_multiple, span_after};
 ghost use Rattle.ax_rules.specs.Limits.{alignment_in, alloca_bytes, bytes_of_allocas, global_limit_fault, has_many_phis, head_limit_fault, instruction_count, is_beyond, limit_fault, passes_first};
 ghost use Rattle.ax_rules.specs.Constants.{fits_type};
@@ -10,10 +11,8 @@ ghost use Rattle.ax_rules.specs.Parts.{AreParts};
 
 use crate::constants::fits_type;
 use crate::facts::Parts;
+use ax_map::{GLOBALS_LIMIT, GLOBALS_START};
 use ax_module::{Block, Function, Inst, Operand, Ty, module};
-
-/// The greatest address at which the globals may end.
-const LIMIT: u64 = 0x110000;
 
 fn is_alignment(align: Option<u64>) -> bool
     ensures { result ≡ is_alignment align }
@@ -71,7 +70,7 @@ fn next_multiple(n: u64, address: u64) -> u128
 
 /// Where a global ends behind what ends at an address.
 fn end_behind(end: u64, variable: &module::Global) -> u128
-    requires { end ≤ 1114112 }
+    requires { end ≤ globals_limit }
     ensures { result ≡ end_of_span (span_after end variable.now) }
 {
     let bytes = variable.elem.bytes();
@@ -81,7 +80,7 @@ fn end_behind(end: u64, variable: &module::Global) -> u128
 
 /// Whether global `g` is the first that ends past the limit, behind what ends at an address.
 fn passes_first(end: u64, globals: &[module::Global], g: usize) -> bool
-    requires { end ≤ 1114112 }
+    requires { end ≤ globals_limit }
     ensures { result ≡ passes_first end globals.now g }
 {
     match globals {
@@ -89,9 +88,9 @@ fn passes_first(end: u64, globals: &[module::Global], g: usize) -> bool
         [variable, more @ ..] => {
             let end = end_behind(end, variable);
             if g == 0 {
-                end > u128::from(LIMIT)
+                end > u128::from(GLOBALS_LIMIT)
             } else {
-                end <= u128::from(LIMIT) && passes_first(end as u64, more, g - 1)
+                end <= u128::from(GLOBALS_LIMIT) && passes_first(end as u64, more, g - 1)
             }
         }
     }
@@ -114,7 +113,7 @@ pub fn has_limit_of_global(globals: &[module::Global], g: usize, variable: &modu
         || !is_alignment(variable.align)
         || any_constant_beyond(variable.elem, variable.init.as_slice())
         || g == 256
-        || passes_first(0x10000, globals, g)
+        || passes_first(GLOBALS_START, globals, g)
 }
 
 fn is_too_long(f: &Function) -> bool

@@ -4,7 +4,7 @@ ghost use Rattle.std.specs.Prelude.{◌≡◌, IfOk, map};
 ghost use Rattle.ax_module.specs.WellFormed.{insts_of};
 ghost use Rattle.ax_rules.specs.Facts.{call_outcome, extent_of, extent_of_global, extent_of_outcome, origin_of, origin_of_step, outcome_at, outcome_of, part_type, scope_of, is_alloca, is_shared};
 
-use crate::facts::{Extent, Origin, Outcome, Scope};
+use crate::facts::{Extent, FunctionScope, Origin, Outcome};
 use ax_module::{Base, Function, Inst, Module, Ty};
 use ax_words::Items;
 use std::alloc::{AllocError, Global};
@@ -61,12 +61,12 @@ fn extents(alloc: Global, m: &Module) -> Result<Vec<Extent>, AllocError>
     Ok(all)
 }
 
-impl Scope {
+impl FunctionScope {
     /// What the instructions of a function of a module can name.
-    pub fn of(alloc: Global, m: &Module, f: &Function) -> Result<Scope, AllocError>
+    pub fn of(alloc: Global, m: &Module, f: &Function) -> Result<FunctionScope, AllocError>
         ensures { IfOk result (λ scope. scope ≡ scope_of m.now f.now) }
     {
-        Ok(Scope {
+        Ok(FunctionScope {
             globals: Items::of(extents(alloc, m)?),
             params: Items::of(f.params.as_slice().to_vec(alloc)?),
             outcomes: Items::of(outcomes(alloc, f)?),

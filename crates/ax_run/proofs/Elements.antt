@@ -11,15 +11,15 @@ use Rattle.ax_module.specs.declared.module.Global.{Global}
 use Rattle.ax_module.specs.declared.types.Ty.{Ty}
 use Rattle.ax_module.specs.declared.types.Ty.TheVariants.{I8, I16, I32, I64, I128}
 use Rattle.ax_module.specs.Types.{type_bytes}
-use Rattle.ax_store.specs.Bytes.{byte_of, covers, cut, is_width, put}
-use Rattle.ax_store.specs.Regions.{IsGlobalsEnd, in_regions}
+use Rattle.ax_map.specs.Map.{IsGlobalsEnd, covers, globals_start, in_regions}
+use Rattle.ax_store.specs.Bytes.{byte_of, cut, is_width, put}
 use Rattle.ax_store.specs.Storage.{stored}
 use Rattle.ax_store.specs.Store.{Kept, StoreState, storage_of}
 use Rattle.ax_store.proofs.Calls.{put_written}
 use Rattle.ax_store.proofs.Regions.{globals_access}
-use Rattle.ax_layout.specs.declared.span.Span.{Span}
+use Rattle.ax_layout.specs.declared.address_range.AddressRange.{AddressRange}
 use Rattle.ax_layout.proofs.Spans.{grows}
-use Rattle.ax_layout.specs.Layout.{CanBeLaidOut, HasElement, IsLaidOut, LayoutState, address_in, bytes_in, count_in, end_of_span, globals_start, is_element_type, nowhere, span_after, span_in, spans_after}
+use Rattle.ax_layout.specs.Layout.{CanBeLaidOut, HasElement, IsLaidOut, LayoutState, address_in, bytes_in, count_in, end_of_span, is_element_type, nowhere, span_after, span_in, spans_after}
 use Rattle.ax_layout.specs.Regions.{AllLie, AreThoseOfTheModule, InLayouts, IsThatOf, Lies}
 use Rattle.ax_source_run.specs.SourceRun.{first_numbers}
 use Rattle.ax_source_run.specs.SourceState.{SourceProgram}
@@ -104,7 +104,7 @@ covered a n x low high = grind (arith, nat_tests)
 grown : (a n b x : ℕ) → covers (a + n) b x ≡ false → covers a (n + b) x ≡ covers a n x
 grown a n b x h = grind (arith, nat_tests, h)
 
-module _ (span : Span) (numbers mem : ℕ → ℕ) where
+module _ (span : AddressRange) (numbers mem : ℕ → ℕ) where
   abbrev s : ℕ
   s = span.start
 

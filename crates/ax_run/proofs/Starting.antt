@@ -6,13 +6,13 @@ use Rattle.std.proofs.lemmas.Grind.{common_steps}
 use Rattle.std.proofs.lemmas.List.{get_or-replicate, length-replicate}
 use Rattle.std.proofs.lemmas.List.Elements.{All-map}
 use Rattle.std.proofs.lemmas.Option.{slice_get-get_or}
-use Rattle.ax_store.specs.Regions.{IsFrameSize}
+use Rattle.ax_map.specs.Map.{IsFrameSize, frame_base}
 use Rattle.ax_store.specs.Store.{storage_of}
 use Rattle.ax_tags.specs.declared.tags.Role.TheVariants.{None as Outside}
 use Rattle.ax_isa.specs.declared.cpu.Status.TheVariants.{Running}
 use Rattle.ax_isa.specs.declared.images.Image.{Image}
 use Rattle.ax_isa.specs.Processor.{processor_of}
-use Rattle.ax_isa.specs.Run.{frame_base, start_processor, start_regs, tag_at, run, explain}
+use Rattle.ax_isa.specs.Run.{start_processor, start_regs, tag_at, run, explain}
 use Rattle.ax_rv.specs.declared.instructions.RvInstr.{RvInstr}
 use Rattle.ax_isa.specs.Tells.{given_of}
 use Rattle.ax_rv.specs.Instructions.{rv_kind}

@@ -1,17 +1,16 @@
 -- What a machine begins with.
 use Rattle.std.specs.Prelude.{false, ℕ, ◌+◌, ◌-◌, ◌*◌, ◌/◌, ◌%◌, if◌then◌else◌, List, [], ◌∷◌, None, map, replicate, slice_index_or, slice_set}
-use Rattle.ax_store.specs.Bytes.{byte_of, covers}
-use Rattle.ax_store.specs.Regions.{in_regions}
+use Rattle.ax_map.specs.Map.{covers, frame_base, in_regions, stack_offset}
+use Rattle.ax_store.specs.Bytes.{byte_of}
 use Rattle.ax_store.specs.Storage.{Storage}
-use Rattle.ax_layout.specs.declared.span.Span.{Span}
+use Rattle.ax_layout.specs.declared.address_range.AddressRange.{AddressRange}
 use Rattle.ax_isa.specs.declared.cpu.Cpu.{Cpu}
 use Rattle.ax_tags.specs.declared.tags.Role.TheVariants.{None as Outside}
 use Rattle.ax_isa.specs.declared.cpu.Status.TheVariants.{Running}
-use Rattle.ax_isa.specs.Run.{frame_base}
 
 -- a processor at a place, with its stack pointer, register 2
 abbrev pub first_cpu : ℕ → ℕ → Cpu
-first_cpu p place = record { regs = slice_set (replicate 32 0) 2 (frame_base p + 131064); compared = (0, 0); half = false; place = place; status = Running; role = Outside }
+first_cpu p place = record { regs = slice_set (replicate 32 0) 2 (frame_base p + stack_offset); compared = (0, 0); half = false; place = place; status = Running; role = Outside }
 
 -- processors p, p + 1, .. at the places of these functions
 abbrev pub cpus_from : List ℕ → ℕ → List ℕ → List Cpu
@@ -23,7 +22,7 @@ abbrev pub frames_for : List ℕ → List ℕ → List ℕ
 frames_for frames entries = map (λ f. slice_index_or frames f 0) entries
 
 -- memory where the first n elements of a global have these numbers
-abbrev pub elements_put : Span → ℕ → (ℕ → ℕ) → (ℕ → ℕ) → ℕ → ℕ
+abbrev pub elements_put : AddressRange → ℕ → (ℕ → ℕ) → (ℕ → ℕ) → ℕ → ℕ
 elements_put span n numbers mem a =
     if covers span.start (n * span.bytes) a then byte_of (numbers ((a - span.start) / span.bytes)) ((a - span.start) % span.bytes) else mem a
 

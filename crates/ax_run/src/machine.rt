@@ -13,6 +13,7 @@ use ax_isa::{Cpu, Image, Shown, Status, step};
 use ax_rv::{Rv64, RvInstr};
 use ax_sched::{Item, event_at};
 use ax_store::Store;
+use ax_target::Target;
 use ax_words::{Event, SourceEvent};
 use std::marker::Model;
 
@@ -188,31 +189,31 @@ impl<'a> Machine<'a> {
         }
     }
 
-    /// The events of a directive.
-    fn repeat(&mut self, item: Item)
+    /// The events of a directive on a target.
+    fn repeat(&mut self, item: Item, target: Target)
         requires room { times_of item ≤ self.old.room }
         requires processor { IsWithin (length self.old.processors) item }
         ensures tells { GoesOn self.old self.new }
-        ensures events { self.new.events ≡ self.old.events ++ item_events false (length self.old.processors) item }
+        ensures events { self.new.events ≡ self.old.events ++ item_events target (length self.old.processors) item }
         ensures room { self.new.room + times_of item ≡ self.old.room }
         ensures kept { Kept self.old self.new }
     {
         let processors = self.processors();
         for k in 0..item.times() {
-            self.happen(event_at(item, processors, false, k));
+            self.happen(event_at(item, processors, target, k));
         }
     }
 
-    /// The events of directives.
-    pub(crate) fn perform(&mut self, items: &[Item])
+    /// The events of directives on a target.
+    pub(crate) fn perform(&mut self, items: &[Item], target: Target)
         requires room { sum_by times_of items.now ≤ self.old.room }
         requires processors { All (IsWithin (length self.old.processors)) items.now }
         ensures tells { GoesOn self.old self.new }
-        ensures events { self.new.events ≡ self.old.events ++ flat_map (item_events false (length self.old.processors)) items.now }
+        ensures events { self.new.events ≡ self.old.events ++ flat_map (item_events target (length self.old.processors)) items.now }
         ensures kept { Kept self.old self.new }
     {
         for item in items {
-            self.repeat(*item);
+            self.repeat(*item, target);
         }
     }
 }

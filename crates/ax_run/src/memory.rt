@@ -1,10 +1,11 @@
 //! Numbers in memory.
 
 ghost use Rattle.std.specs.Prelude.{◌≡◌, ◌<◌, ◌≤◌, ◌+◌, ◌*◌, ◌^◌};
-ghost use Rattle.ax_layout.specs.Classes.{lock_word};
+ghost use Rattle.ax_map.specs.Map.{lock_word};
 ghost use Rattle.ax_store.specs.Bytes.{number_at};
 ghost use Rattle.ax_store.specs.Store.{storage_of};
 
+use ax_map::LOCK_TABLE_START;
 use ax_store::Store;
 
 /// The number in the n bytes of memory from an address on, whatever waits in buffers.
@@ -28,5 +29,5 @@ pub(crate) fn lock_word(store: &Store, i: u32) -> u32
     requires { i < 256 }
     ensures { result ≡ number_at (storage_of store.now).mem (lock_word i) 4 }
 {
-    number_in(store, 0x8000 + 64 * i as u64, 4) as u32
+    number_in(store, LOCK_TABLE_START + 64 * i as u64, 4) as u32
 }

@@ -2,7 +2,7 @@
 
 ghost use Rattle.std.specs.Prelude.{◌≡◌, ◌<◌, ◌≤◌, IfOk, false, length, true};
 ghost use Rattle.std.specs.List.{sum_by};
-ghost use Rattle.ax_layout.specs.Classes.{lock_word};
+ghost use Rattle.ax_map.specs.Map.{lock_word};
 ghost use Rattle.ax_layout.specs.Layout.{HasElement};
 ghost use Rattle.ax_store.specs.Bytes.{number_at};
 ghost use Rattle.ax_sched.specs.Plan.{IsPlan, times_of};
@@ -91,7 +91,8 @@ impl<'a> Run<'a> {
         if self.ended {
             return;
         }
-        self.machine.perform(self.plan.items.as_slice());
+        self.machine
+            .perform(self.plan.items.as_slice(), self.program.target());
         self.ended = true;
     }
 

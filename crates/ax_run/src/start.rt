@@ -1,7 +1,7 @@
 //! What a run begins with: processors, storage, and room for its events.
 
 ghost use Rattle.std.specs.Prelude.{◌≡◌, ◌<◌, ◌≤◌, All, IfOk, [], false, length};
-ghost use Rattle.ax_store.specs.Regions.{IsFrameSize, IsProcessorCount};
+ghost use Rattle.ax_map.specs.Map.{IsFrameSize, IsProcessorCount};
 ghost use Rattle.ax_store.specs.Store.{processors, storage_of};
 ghost use Rattle.ax_agree.specs.Lowers.{AreEntriesOf, first_byte, machine_begins, region_end};
 ghost use Rattle.ax_agree.specs.Sound.{HasFunctions, IsSoundCode};
@@ -14,6 +14,7 @@ use crate::machine::Machine;
 use ax_check::Accepted;
 use ax_check::laws::accepted_can_be_laid_out;
 use ax_isa::{Cpu, Image, Role, Status};
+use ax_map::{FRAME_ROOM, FRAMES_START, STACK_OFFSET};
 use ax_rv::RvInstr;
 use ax_store::Store;
 use std::alloc::{AllocError, Global};
@@ -24,7 +25,7 @@ fn first_cpu(p: u64, place: u32) -> Cpu
     ensures { result ≡ first_cpu p place }
 {
     let mut regs = [0; 32];
-    regs[2] = 0x100_0000 + 0x2_0000 * p + 0x1_fff8;
+    regs[2] = FRAMES_START + FRAME_ROOM * p + STACK_OFFSET;
     Cpu {
         regs,
         compared: (0, 0),

@@ -9,7 +9,7 @@ use Rattle.std.proofs.lemmas.Bool.Decides.{nat_tests}
 use Rattle.std.proofs.lemmas.Option.{same_Some}
 use Rattle.std.proofs.lemmas.Slice.Eq.{bytes_eq-Decides}
 use Rattle.ax_sched.specs.declared.plan.Item.{Item}
-use Rattle.ax_sched.specs.declared.plan.Item.TheVariants.{Step, Drain, Drop, Round}
+use Rattle.ax_sched.specs.declared.plan.Item.TheVariants.{Step, Drain, Drop, Round, Random}
 use Rattle.ax_sched.specs.declared.directive.Verb.{Verb}
 use Rattle.ax_sched.specs.declared.directive.Verb.TheVariants as verb
 use Rattle.ax_sched.specs.declared.directive.Directive.{Directive}
@@ -17,7 +17,7 @@ use Rattle.ax_sched.specs.declared.fault.Cause.{Cause}
 use Rattle.ax_sched.specs.declared.fault.Cause.TheVariants.{Syntax, ProcessorRange, UnknownEntry, UnknownObject, TooMany}
 use Rattle.ax_sched.specs.Plan.{IsWithin, times_of}
 use Rattle.ax_sched.specs.Schedule.{item_words, HasNumbers, IsDirective}
-use Rattle.ax_sched.specs.Reading.{or_cause, number_of, verb_of, directive_of, named_from, directive_from, item_by, item_of, checked, item_from}
+use Rattle.ax_sched.specs.Reading.{or_cause, number_of, verb_of, directive_of, random_from, named_from, directive_from, item_by, item_of, checked, item_from}
 use Rattle.ax_sched.proofs.NumberLemmas.{number_of_found, number_of_decimal}
 use Rattle.ax_sched.proofs.FirstLemmas.{same_Ok, same_Err, apart, or_cause_ok, or_cause_err}
 
@@ -29,15 +29,18 @@ option_mapped : {A B : Type 0} (f : A → B) (o : Option A) (y : B) → option_m
 option_mapped f None y e = absurd cc
 option_mapped f (Some x) y e = (x, refl, same_Some (f x) y e)
 
--- the word of a verb that names a processor
+-- the word of a verb
 abbrev word_of : Verb → List ℕ
 word_of verb.Step = codes "step"
 word_of verb.Drain = codes "drain"
 word_of verb.Drop = codes "drop"
 word_of verb.Round = codes "round"
+word_of (verb.Random s) = codes "random"
 
+-- it names a processor
 abbrev IsNamed : Verb → Type 0
 IsNamed verb.Round = ⊥
+IsNamed (verb.Random s) = ⊥
 IsNamed verb.Step = Unit {0}
 IsNamed verb.Drain = Unit {0}
 IsNamed verb.Drop = Unit {0}
@@ -45,9 +48,8 @@ IsNamed verb.Drop = Unit {0}
 -- what a directive is that was read from words
 record IsRead (words : List (List ℕ)) (d : Directive) : Type 0 where
   whole : words ≡ item_words (item_of d)
-  p : d.p < 2 ^ 64
-  n : d.n < 2 ^ 64
-  none : d.verb ≡ verb.Round → d.p ≡ 0
+  numbers : HasNumbers (item_of d)
+  none : (IsNamed d.verb → ⊥) → d.p ≡ 0
 
 word_is : (w t : List ℕ) → pointwise nat_eq w t ≡ true → w ≡ t
 word_is w t h = (bytes_eq-Decides w t).0 h
@@ -77,9 +79,42 @@ named_words verb.Step p n h = refl
 named_words verb.Drain p n h = refl
 named_words verb.Drop p n h = refl
 named_words verb.Round p n h = absurd h
+named_words (verb.Random s) p n h = absurd h
 
-not_round : (v : Verb) → IsNamed v → v ≡ verb.Round → ⊥
-not_round v h e = subst IsNamed e h
+named_numbers : (v : Verb) (p n : ℕ) → IsNamed v → p < 2 ^ 64 → n < 2 ^ 64 → HasNumbers (item_by v p n)
+named_numbers verb.Step p n h small few = (small, few)
+named_numbers verb.Drain p n h small few = (small, few)
+named_numbers verb.Drop p n h small few = (small, few)
+named_numbers verb.Round p n h small few = absurd h
+named_numbers (verb.Random s) p n h small few = absurd h
+
+named_found : (v a b : List ℕ) (d : Directive) → named_from v a b ≡ Some d → IsRead (v ∷ a ∷ b ∷ []) d
+named_found v a b d e =
+    let x = bind_some (verb_of v) (λ (u : Verb). option_and_then (λ (k : ℕ). option_map (directive_of u k) (number_of b)) (number_of a)) d e in
+    let y = bind_some (number_of a) (λ (k : ℕ). option_map (directive_of x.0 k) (number_of b)) d x.2 in
+    let z = option_mapped (directive_of x.0 y.0) (number_of b) d y.2 in
+    let h = verb_found v x.0 x.1 in
+    let p = number_of_found a y.0 y.1 in
+    let n = number_of_found b z.0 z.1 in
+    let P : Directive → Type 0 = λ q. IsRead (v ∷ a ∷ b ∷ []) q in
+    subst P z.2 (record {
+      whole = ap (λ (q : List ℕ). q ∷ a ∷ b ∷ []) h.0 ∙ ap (λ (q : List ℕ). word_of x.0 ∷ q ∷ b ∷ []) p.0 ∙ ap (λ (q : List ℕ). word_of x.0 ∷ decimal y.0 ∷ q ∷ []) n.0 ∙ named_words x.0 y.0 z.0 h.1;
+      numbers = named_numbers x.0 y.0 z.0 h.1 p.1 n.1;
+      none = λ r. absurd (r h.1);
+    })
+
+random_found : (v a b : List ℕ) (d : Directive) → pointwise nat_eq v (codes "random") ≡ true → random_from a b ≡ Some d → IsRead (v ∷ a ∷ b ∷ []) d
+random_found v a b d good e =
+    let x = bind_some (number_of a) (λ (s : ℕ). option_map (directive_of (verb.Random s) 0) (number_of b)) d e in
+    let z = option_mapped (directive_of (verb.Random x.0) 0) (number_of b) d x.2 in
+    let s = number_of_found a x.0 x.1 in
+    let n = number_of_found b z.0 z.1 in
+    let P : Directive → Type 0 = λ q. IsRead (v ∷ a ∷ b ∷ []) q in
+    subst P z.2 (record {
+      whole = ap (λ (q : List ℕ). q ∷ a ∷ b ∷ []) (word_is v (codes "random") good) ∙ ap (λ (q : List ℕ). codes "random" ∷ q ∷ b ∷ []) s.0 ∙ ap (λ (q : List ℕ). codes "random" ∷ decimal x.0 ∷ q ∷ []) n.0;
+      numbers = (s.1, n.1);
+      none = λ _. refl;
+    })
 
 directive_found : (words : List (List ℕ)) (d : Directive) → directive_from words ≡ Some d → IsRead words d
 directive_found [] d e = absurd cc
@@ -92,26 +127,16 @@ directive_found (v ∷ a ∷ []) d e =
           let P : Directive → Type 0 = λ x. IsRead (v ∷ a ∷ []) x in
           subst P n.2 (record {
             whole = ap (λ (x : List ℕ). x ∷ a ∷ []) (word_is v (codes "round") good) ∙ ap (λ (x : List ℕ). codes "round" ∷ x ∷ []) k.0;
-            p = lit< tt;
-            n = k.1;
+            numbers = k.1;
             none = λ _. refl;
           })
       | inr bad ↦ let f = rw bad at e in absurd cc
     ]
 directive_found (v ∷ a ∷ b ∷ []) d e =
-    let x = bind_some (verb_of v) (λ (u : Verb). option_and_then (λ (k : ℕ). option_map (directive_of u k) (number_of b)) (number_of a)) d e in
-    let y = bind_some (number_of a) (λ (k : ℕ). option_map (directive_of x.0 k) (number_of b)) d x.2 in
-    let z = option_mapped (directive_of x.0 y.0) (number_of b) d y.2 in
-    let h = verb_found v x.0 x.1 in
-    let p = number_of_found a y.0 y.1 in
-    let n = number_of_found b z.0 z.1 in
-    let P : Directive → Type 0 = λ q. IsRead (v ∷ a ∷ b ∷ []) q in
-    subst P z.2 (record {
-      whole = ap (λ (q : List ℕ). q ∷ a ∷ b ∷ []) h.0 ∙ ap (λ (q : List ℕ). word_of x.0 ∷ q ∷ b ∷ []) p.0 ∙ ap (λ (q : List ℕ). word_of x.0 ∷ decimal y.0 ∷ q ∷ []) n.0 ∙ named_words x.0 y.0 z.0 h.1;
-      p = p.1;
-      n = n.1;
-      none = λ r. absurd (not_round x.0 h.1 r);
-    })
+    elim (cases_Bool (pointwise nat_eq v (codes "random"))) [
+      | inl good ↦ random_found v a b d good (rw good at e)
+      | inr bad ↦ named_found v a b d (rw bad at e)
+    ]
 directive_found (v ∷ a ∷ b ∷ c ∷ ws) d e = absurd cc
 
 -- the directive of an item
@@ -120,6 +145,7 @@ stated_by (Step p n) = directive_of verb.Step p n
 stated_by (Drain p n) = directive_of verb.Drain p n
 stated_by (Drop p n) = directive_of verb.Drop p n
 stated_by (Round n) = directive_of verb.Round 0 n
+stated_by (Random s n) = directive_of (verb.Random s) 0 n
 
 named_again : (v : Verb) (w : List ℕ) (p n : ℕ) → verb_of w ≡ Some v → p < 2 ^ 64 → n < 2 ^ 64 → named_from w (decimal p) (decimal n) ≡ Some (directive_of v p n)
 named_again v w p n h small few = rw (h, number_of_decimal p small, number_of_decimal n few) refl
@@ -129,45 +155,45 @@ item_again (Step p n) h = named_again verb.Step (codes "step") p n refl h.0 h.1
 item_again (Drain p n) h = named_again verb.Drain (codes "drain") p n refl h.0 h.1
 item_again (Drop p n) h = named_again verb.Drop (codes "drop") p n refl h.0 h.1
 item_again (Round n) h = rw (number_of_decimal n h) refl
+item_again (Random s n) h = rw (number_of_decimal s h.0, number_of_decimal n h.1) refl
 
 item_stated : (i : Item) → item_of (stated_by i) ≡ i
 item_stated (Step p n) = refl
 item_stated (Drain p n) = refl
 item_stated (Drop p n) = refl
 item_stated (Round n) = refl
-
-has_numbers : (v : Verb) (p n : ℕ) → p < 2 ^ 64 → n < 2 ^ 64 → HasNumbers (item_by v p n)
-has_numbers verb.Step p n h k = (h, k)
-has_numbers verb.Drain p n h k = (h, k)
-has_numbers verb.Drop p n h k = (h, k)
-has_numbers verb.Round p n h k = k
+item_stated (Random s n) = refl
 
 times_by : (v : Verb) (p n : ℕ) → times_of (item_by v p n) ≡ n
 times_by verb.Step p n = refl
 times_by verb.Drain p n = refl
 times_by verb.Drop p n = refl
 times_by verb.Round p n = refl
+times_by (verb.Random s) p n = refl
 
 within_found : (k : ℕ) (v : Verb) (p n : ℕ) → p < k → IsWithin k (item_by v p n)
 within_found k verb.Step p n h = h
 within_found k verb.Drain p n h = h
 within_found k verb.Drop p n h = h
 within_found k verb.Round p n h = tt
+within_found k (verb.Random s) p n h = tt
 
 within_again : (k : ℕ) (i : Item) → 1 ≤ k → IsWithin k i → (stated_by i).p < k
 within_again k (Step p n) some h = h
 within_again k (Drain p n) some h = h
 within_again k (Drop p n) some h = h
 within_again k (Round n) some h = omega arith
+within_again k (Random s n) some h = omega arith
 
 times_stated : (i : Item) → (stated_by i).n ≡ times_of i
 times_stated (Step p n) = refl
 times_stated (Drain p n) = refl
 times_stated (Drop p n) = refl
 times_stated (Round n) = refl
+times_stated (Random s n) = refl
 
 directive_is : (words : List (List ℕ)) (d : Directive) → IsRead words d → IsDirective words (item_of d)
-directive_is words d h = record { whole = h.whole; numbers = has_numbers d.verb d.p d.n h.p h.n }
+directive_is words d h = record { whole = h.whole; numbers = h.numbers }
 
 directive_again : (words : List (List ℕ)) (i : Item) → IsDirective words i → directive_from words ≡ Some (stated_by i)
 directive_again words i h = ap directive_from h.whole ∙ item_again i h.numbers
@@ -224,11 +250,12 @@ module _ (k events : ℕ) (some : 1 ≤ k) where
       ∙ checked_of (stated_by i) true true (lt-ltb (stated_by i).p k (within_again k i some h.within)) (le-leb (events + (stated_by i).n) 1000000 (omega (arith, times_stated i, h.few)))
       ∙ ap (λ (x : Item). Ok x) (item_stated i)
 
-  in_range : (v : Verb) (p n : ℕ) → (v ≡ verb.Round → p ≡ 0) → IsWithin k (item_by v p n) → p < k
+  in_range : (v : Verb) (p n : ℕ) → ((IsNamed v → ⊥) → p ≡ 0) → IsWithin k (item_by v p n) → p < k
   in_range verb.Step p n z h = h
   in_range verb.Drain p n z h = h
   in_range verb.Drop p n z h = h
-  in_range verb.Round p n z h = omega (arith, z refl)
+  in_range verb.Round p n z h = omega (arith, z (λ (x : IsNamed verb.Round). x))
+  in_range (verb.Random s) p n z h = omega (arith, z (λ (x : IsNamed (verb.Random s)). x))
 
   far : (d : Directive) → nat_lt d.p k ≡ false → checked k events d ≡ Err ProcessorRange
   far d h = rw h refl
@@ -269,6 +296,7 @@ module _ (k events : ℕ) (some : 1 ≤ k) where
   within_back (Drain p n) h = h
   within_back (Drop p n) h = h
   within_back (Round n) h = tt
+  within_back (Random s n) h = tt
 
   no_directive : (words : List (List ℕ)) → ((i : Item) → IsDirective words i → ⊥) → (o : Option Directive) → directive_from words ≡ o → or_cause Syntax o (checked k events) ≡ Err Syntax
   no_directive words h None e = refl

@@ -5,13 +5,12 @@ use Rattle.std.specs.List.{sum_by}
 use Rattle.std.proofs.lemmas.List.Elements.{All-nil, All-cons, All-head, All-tail}
 use Rattle.std.proofs.lemmas.List.Sums.{sum_by-cons}
 use Rattle.ax_sched.specs.declared.plan.Item.{Item}
-use Rattle.ax_sched.specs.declared.plan.Item.TheVariants.{Step, Drain, Drop, Round}
 use Rattle.ax_sched.specs.declared.plan.Plan.{Plan}
 use Rattle.ax_sched.specs.declared.fault.Cause.{Cause}
 use Rattle.ax_sched.specs.declared.fault.Cause.TheVariants.{Syntax, ProcessorRange, UnknownEntry, UnknownObject, TooMany}
 use Rattle.ax_sched.specs.Plan.{IsWithin, times_of}
 use Rattle.ax_sched.specs.Lines.{words_of}
-use Rattle.ax_sched.specs.Schedule.{item_words, HasNumbers, IsNextCause, States, words_in, IsBadBehind, IsBadLine}
+use Rattle.ax_sched.specs.Schedule.{item_words, HasNumbers, IsDirective, IsNextCause, States, words_in, IsBadBehind, IsBadLine}
 use Rattle.ax_sched.specs.Reading.{and_at, item_from, items_from, first_of, planned, plan_from}
 use Rattle.ax_sched.proofs.FirstLemmas.{same_Ok, same_Err, apart, IsGoodFirst, first_found, first_again, first_stop, stop_again, length_entries, within_of}
 use Rattle.ax_sched.proofs.DirectiveLemmas.{NextCause, IsGoodNext, next_found, next_again, next_stop, cause_again}
@@ -59,18 +58,13 @@ plan_worded functions total (l ∷ ls) =
 
 record AreItems (k events : ℕ) (lines : List (List (List ℕ))) (items : List Item) : Type 0 where
   all : lines ≡ map item_words items
+  numbers : All HasNumbers items
   processors : All (IsWithin k) items
   few : events + sum_by times_of items ≤ 1000000
 
-has_numbers : (k : ℕ) (i : Item) → k ≤ 8 → IsWithin k i → times_of i ≤ 1000000 → HasNumbers i
-has_numbers k (Step p n) small h few = (omega arith, omega arith)
-has_numbers k (Drain p n) small h few = (omega arith, omega arith)
-has_numbers k (Drop p n) small h few = (omega arith, omega arith)
-has_numbers k (Round n) small h few = omega arith
-
-module _ (k : ℕ) (some : 1 ≤ k) (small : k ≤ 8) where
+module _ (k : ℕ) (some : 1 ≤ k) where
   items_found : (before : List Item) (events : ℕ) (lines : List Line) (is : List Item) → events ≤ 1000000 → items_on k before events lines ≡ Ok is → (more : List Item) × (is ≡ before ++ more) × AreItems k events (words_in lines) more
-  items_found before events [] is h e = ([], sym (same_Ok before is e) ∙ sym (append-nil before), record { all = refl; processors = All-nil (IsWithin k); few = omega (arith, h) })
+  items_found before events [] is h e = ([], sym (same_Ok before is e) ∙ sym (append-nil before), record { all = refl; numbers = All-nil HasNumbers; processors = All-nil (IsWithin k); few = omega (arith, h) })
   items_found before events (l ∷ lines) is h e =
       let b = and_at_ok l.0 (item_from k events l.1) (λ (i : Item). items_on k (before ++ i ∷ []) (events + times_of i) lines) is e in
       let i : Item = b.0 in
@@ -80,13 +74,11 @@ module _ (k : ℕ) (some : 1 ≤ k) (small : k ≤ 8) where
         r.1 ∙ append_assoc before (i ∷ []) r.0,
         record {
           all = ap (λ (x : List (List ℕ)). x ∷ words_in lines) g.directive.whole ∙ ap (λ (xs : List (List (List ℕ))). item_words i ∷ xs) r.2.all;
+          numbers = All-cons HasNumbers i r.0 g.directive.numbers r.2.numbers;
           processors = All-cons (IsWithin k) i r.0 g.within r.2.processors;
           few = omega (arith, r.2.few, sum_by-cons times_of i r.0);
         },
       )
-
-  good_next : (events : ℕ) (words : List (List ℕ)) (i : Item) → words ≡ item_words i → IsWithin k i → events + times_of i ≤ 1000000 → IsGoodNext k events words i
-  good_next events words i e w few = record { directive = record { whole = e; numbers = has_numbers k i small w (omega arith) }; within = w; few = few }
 
   heads_same : {A : Type 0} (x y : A) (xs ys : List A) → x ∷ xs ≡ y ∷ ys → (x ≡ y) × (xs ≡ ys)
   heads_same x y xs ys e = (cc, cc)
@@ -102,8 +94,9 @@ module _ (k : ℕ) (some : 1 ≤ k) (small : k ≤ 8) where
       let s = sum_by-cons times_of i more in
       let e = heads_same l.1 (item_words i) (words_in lines) (map item_words more) h.all in
       let w = All-head (IsWithin k) i more h.processors in
-      let g = next_again k events some l.1 i (good_next events l.1 i e.0 w (omega (arith, h.few))) in
-      let r : AreItems k (events + times_of i) (words_in lines) more = record { all = e.1; processors = All-tail (IsWithin k) i more h.processors; few = omega (arith, h.few) } in
+      let d : IsDirective l.1 i = record { whole = e.0; numbers = All-head HasNumbers i more h.numbers } in
+      let g = next_again k events some l.1 i (record { directive = d; within = w; few = omega (arith, h.few) }) in
+      let r : AreItems k (events + times_of i) (words_in lines) more = record { all = e.1; numbers = All-tail HasNumbers i more h.numbers; processors = All-tail (IsWithin k) i more h.processors; few = omega (arith, h.few) } in
       ap (λ x. and_at l.0 x (λ (j : Item). items_on k (before ++ j ∷ []) (events + times_of j) (lines ++ rest))) g
       ∙ items_behind (before ++ i ∷ []) (events + times_of i) lines rest more sum (omega arith) r
       ∙ ap (λ (x : List Item). items_on k x sum rest) (append_assoc before (i ∷ []) more)
@@ -130,7 +123,7 @@ module _ (k : ℕ) (some : 1 ≤ k) (small : k ≤ 8) where
               behind = lines;
               whole = refl;
               items = [];
-              good = record { all = refl; processors = All-nil (IsWithin k); few = omega (arith, h) };
+              good = record { all = refl; numbers = All-nil HasNumbers; processors = All-nil (IsWithin k); few = omega (arith, h) };
               cause = subst (λ (x : ℕ). NextCause k x l.1 b.0) z (next_stop k events some l.1 b.0 b.1);
             })
         | inr b ↦
@@ -147,6 +140,7 @@ module _ (k : ℕ) (some : 1 ≤ k) (small : k ≤ 8) where
               items = i ∷ r.items;
               good = record {
                 all = ap (λ (x : List (List ℕ)). x ∷ words_in r.front) g.directive.whole ∙ ap (λ (xs : List (List (List ℕ))). item_words i ∷ xs) r.good.all;
+                numbers = All-cons HasNumbers i r.items g.directive.numbers r.good.numbers;
                 processors = All-cons (IsWithin k) i r.items g.within r.good.processors;
                 few = omega (arith, r.good.few, s);
               };
@@ -186,6 +180,7 @@ module _ (functions : List (List ℕ)) where
         names = g.names;
         whole = ap (λ (x : List (List ℕ)). x ∷ words_in lines) g.whole ∙ ap (λ (x : List (List (List ℕ))). (codes "processors" ∷ g.names) ∷ x) a.all;
         named = g.entries;
+        numbers = a.numbers;
         fits = record { some = omega (arith, g.count.0); few = omega (arith, g.count.1); entries = within_of functions g.names es g.entries; processors = a.processors; events = omega (arith, a.few) };
       }
 
@@ -199,7 +194,7 @@ module _ (functions : List (List ℕ)) where
       let g = first_found functions l.1 b.0 b.1 in
       let n = counts l b.0 g in
       let p = planned_ok b.0 (items_on (length b.0) [] 0 lines) plan b.2 in
-      let r = items_found (length b.0) n.0 n.1 [] 0 lines p.0 (lit≤ tt) p.1 in
+      let r = items_found (length b.0) n.0 [] 0 lines p.0 (lit≤ tt) p.1 in
       let items : AreItems (length b.0) 0 (words_in lines) p.0 = subst (λ (x : List Item). AreItems (length b.0) 0 (words_in lines) x) (sym r.1) r.2 in
       subst (λ (q : Plan). States functions (words_in (l ∷ lines)) q) p.2 (stated_plan b.0 p.0 l lines g items)
 
@@ -211,7 +206,7 @@ module _ (functions : List (List ℕ)) where
       record { names = s.names; whole = cc; count = (omega (arith, s.fits.some), omega (arith, s.fits.few)); entries = s.named }
 
   items_of_plan : (l : Line) (lines : List Line) (plan : Plan) → States functions (words_in (l ∷ lines)) plan → AreItems (length plan.entries) 0 (words_in lines) plan.items
-  items_of_plan l lines plan s = let e = s.whole in record { all = cc; processors = s.fits.processors; few = omega (arith, s.fits.events) }
+  items_of_plan l lines plan s = let e = s.whole in record { all = cc; numbers = s.numbers; processors = s.fits.processors; few = omega (arith, s.fits.events) }
 
   module _ (differ : AllPairs (λ x y. x ≢ y) functions) where
     -- behind lines that state a plan
@@ -219,7 +214,7 @@ module _ (functions : List (List ℕ)) where
     plan_behind total l lines rest plan s =
         let g = first_of_plan l lines plan s in
         ap (λ x. and_at l.0 x (λ (es : List ℕ). planned es (items_on (length es) [] 0 (lines ++ rest)))) (first_again functions differ l.1 plan.entries g)
-        ∙ ap (planned plan.entries) (items_behind (length plan.entries) s.fits.some s.fits.few [] 0 lines rest plan.items (sum_by times_of plan.items) (omega arith) (items_of_plan l lines plan s))
+        ∙ ap (planned plan.entries) (items_behind (length plan.entries) s.fits.some [] 0 lines rest plan.items (sum_by times_of plan.items) (omega arith) (items_of_plan l lines plan s))
 
     pub plan_only : (total : ℕ) (lines : List Line) (plan : Plan) → States functions (words_in lines) plan → plan_on functions total lines ≡ Ok plan
     plan_only total [] plan s = absurd (let e = s.whole in cc)
@@ -234,7 +229,7 @@ module _ (functions : List (List ℕ)) where
           | inr b ↦
               let g = first_found functions l.1 b.0 b.1 in
               let n = counts l b.0 g in
-              let r = items_stop (length b.0) n.0 n.1 [] 0 lines d (lit≤ tt) (planned_err b.0 (items_on (length b.0) [] 0 lines) d b.2) in
+              let r = items_stop (length b.0) n.0 [] 0 lines d (lit≤ tt) (planned_err b.0 (items_on (length b.0) [] 0 lines) d b.2) in
               let plan : Plan = record { entries = b.0; items = r.items } in
               let z : 0 + sum_by times_of r.items ≡ sum_by times_of r.items = omega arith in
               inl (record {

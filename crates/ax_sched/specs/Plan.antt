@@ -3,7 +3,7 @@ use Rattle.std.specs.Prelude.{ℕ, ◌<◌, ◌≤◌, length, All}
 use Rattle.std.specs.List.{sum_by}
 use Rattle.ax_module.specs.declared.module.Module.{Module}
 use Rattle.ax_sched.specs.declared.plan.Item.{Item}
-use Rattle.ax_sched.specs.declared.plan.Item.TheVariants.{Step, Drain, Drop, Round}
+use Rattle.ax_sched.specs.declared.plan.Item.TheVariants.{Step, Drain, Drop, Round, Random}
 use Rattle.ax_sched.specs.declared.plan.Plan.{Plan}
 
 -- The processor that a directive names, where it names one, is one of so many.
@@ -12,6 +12,7 @@ IsWithin k (Step p n) = p < k
 IsWithin k (Drain p n) = p < k
 IsWithin k (Drop p n) = p < k
 IsWithin k (Round n) = Unit {0}
+IsWithin k (Random seed n) = Unit {0}
 
 -- how many events it makes
 abbrev pub times_of : Item → ℕ
@@ -19,6 +20,7 @@ times_of (Step p n) = n
 times_of (Drain p n) = n
 times_of (Drop p n) = n
 times_of (Round n) = n
+times_of (Random seed n) = n
 
 -- a plan of a module with so many functions
 pub record IsPlan (functions : ℕ) (plan : Plan) : Type 0 where

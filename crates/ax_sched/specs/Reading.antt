@@ -9,7 +9,7 @@ use Rattle.ax_lex.specs.Names.{name_in}
 use Rattle.ax_lex.specs.Numbers.{number_of as decimal_of}
 use Rattle.ax_lex.specs.Tokens.{is_token}
 use Rattle.ax_sched.specs.declared.plan.Item.{Item}
-use Rattle.ax_sched.specs.declared.plan.Item.TheVariants.{Step, Drain, Drop, Round}
+use Rattle.ax_sched.specs.declared.plan.Item.TheVariants.{Step, Drain, Drop, Round, Random}
 use Rattle.ax_sched.specs.declared.plan.Plan.{Plan}
 use Rattle.ax_sched.specs.declared.directive.Verb.{Verb}
 use Rattle.ax_sched.specs.declared.directive.Verb.TheVariants as verb
@@ -121,6 +121,9 @@ directive_of v p n = record { verb = v; p = p; n = n }
 abbrev pub round_from : List ℕ → List ℕ → Option Directive
 round_from word n = if pointwise nat_eq word (codes "round") then option_map (directive_of verb.Round 0) (number_of n) else None
 
+abbrev pub random_from : List ℕ → List ℕ → Option Directive
+random_from seed n = option_and_then (λ s. option_map (directive_of (verb.Random s) 0) (number_of n)) (number_of seed)
+
 abbrev pub named_from : List ℕ → List ℕ → List ℕ → Option Directive
 named_from word p n = option_and_then (λ v. option_and_then (λ k. option_map (directive_of v k) (number_of n)) (number_of p)) (verb_of word)
 
@@ -128,7 +131,7 @@ abbrev pub directive_from : List (List ℕ) → Option Directive
 directive_from [] = None
 directive_from (v ∷ []) = None
 directive_from (v ∷ a ∷ []) = round_from v a
-directive_from (v ∷ a ∷ b ∷ []) = named_from v a b
+directive_from (v ∷ a ∷ b ∷ []) = if pointwise nat_eq v (codes "random") then random_from a b else named_from v a b
 directive_from (v ∷ a ∷ b ∷ c ∷ ws) = None
 
 abbrev pub item_by : Verb → ℕ → ℕ → Item
@@ -136,6 +139,7 @@ item_by verb.Step p n = Step p n
 item_by verb.Drain p n = Drain p n
 item_by verb.Drop p n = Drop p n
 item_by verb.Round p n = Round n
+item_by (verb.Random seed) p n = Random seed n
 
 abbrev pub item_of : Directive → Item
 item_of d = item_by d.verb d.p d.n

@@ -6,7 +6,7 @@ use Rattle.ax_lex.specs.Names.{name_in}
 use Rattle.ax_lex.specs.Tokens.{is_token}
 use Rattle.ax_module.specs.declared.module.Module.{Module}
 use Rattle.ax_sched.specs.declared.plan.Item.{Item}
-use Rattle.ax_sched.specs.declared.plan.Item.TheVariants.{Step, Drain, Drop, Round}
+use Rattle.ax_sched.specs.declared.plan.Item.TheVariants.{Step, Drain, Drop, Round, Random}
 use Rattle.ax_sched.specs.declared.plan.Plan.{Plan}
 use Rattle.ax_sched.specs.declared.fault.Cause.{Cause}
 use Rattle.ax_sched.specs.declared.fault.Cause.TheVariants.{Syntax, ProcessorRange, UnknownEntry, UnknownObject, TooMany}
@@ -58,6 +58,7 @@ item_words (Step p n) = codes "step" ∷ decimal p ∷ decimal n ∷ []
 item_words (Drain p n) = codes "drain" ∷ decimal p ∷ decimal n ∷ []
 item_words (Drop p n) = codes "drop" ∷ decimal p ∷ decimal n ∷ []
 item_words (Round n) = codes "round" ∷ decimal n ∷ []
+item_words (Random seed n) = codes "random" ∷ decimal seed ∷ decimal n ∷ []
 
 -- its numbers can be stated
 abbrev pub HasNumbers : Item → Type 0
@@ -65,6 +66,7 @@ HasNumbers (Step p n) = (p < 2 ^ 64) × (n < 2 ^ 64)
 HasNumbers (Drain p n) = (p < 2 ^ 64) × (n < 2 ^ 64)
 HasNumbers (Drop p n) = (p < 2 ^ 64) × (n < 2 ^ 64)
 HasNumbers (Round n) = n < 2 ^ 64
+HasNumbers (Random seed n) = (seed < 2 ^ 64) × (n < 2 ^ 64)
 
 pub record IsDirective (words : List (List ℕ)) (item : Item) : Type 0 where
   pub whole : words ≡ item_words item
@@ -85,6 +87,7 @@ pub record States (functions : List (List ℕ)) (lines : List (List (List ℕ)))
   pub names : List (List ℕ)
   pub whole : lines ≡ (codes "processors" ∷ names) ∷ map item_words plan.items
   pub named : AreEntries functions names plan.entries
+  pub numbers : All HasNumbers plan.items
   pub fits : IsPlan (length functions) plan
 
 abbrev pub function_names : Module → List (List ℕ)

@@ -2,7 +2,7 @@
 
 ghost use Rattle.std.specs.Prelude.{◌≡◌, ◌+◌, ◌≤◌, ◌<◌, map, IfOk};
 ghost use Rattle.ax_sched.specs.Plan.{times_of};
-ghost use Rattle.ax_sched.specs.Reading.{verb_of, round_from, named_from, directive_from, item_of, item_from};
+ghost use Rattle.ax_sched.specs.Reading.{verb_of, round_from, random_from, named_from, directive_from, item_of, item_from};
 
 use crate::fault::Cause;
 use crate::number::number;
@@ -16,10 +16,11 @@ pub enum Verb {
     Drain,
     Drop,
     Round,
+    Random { seed: u64 },
 }
 
-/// What a line says, before the processor is known to be there. A `Round`, which names none, has
-/// processor 0.
+/// What a line says, before the processor is known to be there. A `Round` and a `Random`, which name
+/// none, have processor 0.
 #[derive(Clone, Copy)]
 pub struct Directive {
     pub verb: Verb,
@@ -51,6 +52,18 @@ fn round(word: &[u8], n: &[u8]) -> Option<Directive>
     })
 }
 
+fn random(seed: &[u8], n: &[u8]) -> Option<Directive>
+    ensures { result ≡ random_from seed.now n.now }
+{
+    let seed = number(seed)?;
+    let n = number(n)?;
+    Some(Directive {
+        verb: Verb::Random { seed },
+        p: 0,
+        n,
+    })
+}
+
 fn named(word: &[u8], p: &[u8], n: &[u8]) -> Option<Directive>
     ensures { result ≡ named_from word.now p.now n.now }
 {
@@ -65,6 +78,7 @@ fn stated(words: &[&[u8]]) -> Option<Directive>
 {
     match words {
         [word, n] => round(word, n),
+        [word, seed, n] if *word == b"random".as_slice() => random(seed, n),
         [word, p, n] => named(word, p, n),
         _ => None,
     }
@@ -82,6 +96,7 @@ fn item_of(directive: Directive) -> Item
         Verb::Drain => Item::Drain { p, n },
         Verb::Drop => Item::Drop { p, n },
         Verb::Round => Item::Round { n },
+        Verb::Random { seed } => Item::Random { seed, n },
     }
 }
 

@@ -1,23 +1,32 @@
 //! The events of directives, one by one.
 
-ghost use Rattle.std.specs.Prelude.{◌≡◌, ◌<◌, ◌≤◌, slice_index_or};
+ghost use Rattle.std.specs.Prelude.{◌≡◌, ◌<◌, ◌≤◌, IsTrue, slice_index_or};
 ghost use Rattle.ax_words.specs.declared.event.Event.TheVariants.{Step as Steps};
+ghost use Rattle.ax_target.specs.Targets.{is_buffered};
+ghost use Rattle.ax_sched.specs.Mix.{mix};
 ghost use Rattle.ax_sched.specs.Plan.{IsWithin, times_of};
-ghost use Rattle.ax_sched.specs.Events.{event_processor, item_events, cycle_event};
+ghost use Rattle.ax_sched.specs.Events.{event_processor, item_events, cycle_event, random_event};
+ghost use Rattle.ax_sched.specs.Policy.{has_event};
 
+use crate::generator::mix;
+use crate::glance::Glance;
 use crate::plan::Item;
+use crate::policy::Policy;
+use ax_target::{Target, buffered, pairs};
 use ax_words::Event;
 
-/// An event of a cycle: each processor's Step in turn, and with buffers two Drains behind it.
-fn cycle_at(processors: u8, buffered: bool, k: u64) -> Event
-    requires { 1 ≤ processors }
-    ensures is { result ≡ cycle_event buffered processors k }
-    ensures processor { event_processor result < processors }
+/// The policy of `round`: each processor's Step in turn, and with buffers two Drains behind it.
+pub fn round_event(g: &Glance, target: Target) -> Event
+    requires { 1 ≤ g.now.processors }
+    ensures is { result ≡ cycle_event (is_buffered target) g.now.processors g.now.number }
+    ensures processor { event_processor result < g.now.processors }
+    ensures event { IsTrue (has_event target result) }
 {
-    if !buffered {
-        return Event::Step((k % processors as u64) as u8);
+    let processors = g.processors as u64;
+    if !buffered(target) {
+        return Event::Step((g.number % processors) as u8);
     }
-    let turn = k % (3 * processors as u64);
+    let turn = g.number % (3 * processors);
     let p = (turn / 3) as u8;
     if turn % 3 == 0 {
         Event::Step(p)
@@ -26,18 +35,44 @@ fn cycle_at(processors: u8, buffered: bool, k: u64) -> Event
     }
 }
 
-/// Event k of a directive, counted from 0, in constant time, on a machine with so many processors
-/// and with buffers or without.
-pub fn event_at(item: Item, processors: u8, buffered: bool, k: u64) -> Event
+/// The policy of `random`: what the generator draws. With buffers 4 of 16 events are Drains, with pairs
+/// 1 of 16 is a Drop; the others are Steps.
+pub fn random_event(g: &Glance, target: Target, seed: u64) -> Event
+    requires { 1 ≤ g.now.processors }
+    ensures is { result ≡ random_event target g.now.processors (mix seed g.now.number) }
+    ensures processor { event_processor result < g.now.processors }
+    ensures event { IsTrue (has_event target result) }
+{
+    let r = mix(seed, g.number);
+    let p = (r % g.processors as u64) as u8;
+    let k = (r >> 32) % 16;
+    if buffered(target) && k < 4 {
+        Event::Drain(p)
+    } else if pairs(target) && k == 0 {
+        Event::Drop(p)
+    } else {
+        Event::Step(p)
+    }
+}
+
+/// Event k of a directive, counted from 0, in constant time, on a target and with so many processors.
+/// Those of a `Round` and of a `Random` are the answers of their policies, which look at nothing else.
+pub fn event_at(item: Item, processors: u8, target: Target, k: u64) -> Event
     requires processors { 1 ≤ processors }
     requires within { k < times_of item }
-    ensures is { result ≡ slice_index_or (item_events buffered processors item) k (Steps 0) }
+    ensures is { result ≡ slice_index_or (item_events target processors item) k (Steps 0) }
     ensures processor { IsWithin processors item → event_processor result < processors }
 {
+    let glance = Glance::unseen(k, processors);
     match item {
         Item::Step { p, .. } => Event::Step(p),
         Item::Drain { p, .. } => Event::Drain(p),
         Item::Drop { p, .. } => Event::Drop(p),
-        Item::Round { .. } => cycle_at(processors, buffered, k),
+        Item::Round { .. } => {
+            Policy::new(|g| round_event(g, target), processors, target).next(&glance)
+        }
+        Item::Random { seed, .. } => {
+            Policy::new(|g| random_event(g, target, seed), processors, target).next(&glance)
+        }
     }
 }

@@ -6,14 +6,16 @@ ghost use Rattle.ax_sched.specs.Plan.{times_of};
 use ax_words::Items;
 
 /// One directive, which makes `n` events: Steps, Drains or Drops of processor `p`, one after the
-/// other, or Steps of all processors in turn, from processor 0 on. On a machine with buffers each
-/// Step of a `Round` is followed by two Drains of its processor, and these count.
+/// other; Steps of all processors in turn, from processor 0 on; or events that are drawn from the
+/// generator SplitMix64. On a machine with buffers each Step of a `Round` is followed by two Drains
+/// of its processor, and these count.
 #[derive(Clone, Copy)]
 pub enum Item {
     Step { p: u8, n: u64 },
     Drain { p: u8, n: u64 },
     Drop { p: u8, n: u64 },
     Round { n: u64 },
+    Random { seed: u64, n: u64 },
 }
 
 impl Item {
@@ -23,7 +25,7 @@ impl Item {
     {
         match self {
             Item::Step { n, .. } | Item::Drain { n, .. } | Item::Drop { n, .. } => n,
-            Item::Round { n } => n,
+            Item::Round { n } | Item::Random { n, .. } => n,
         }
     }
 }

@@ -8,7 +8,7 @@ use Rattle.ax_module.specs.declared.types.Ty.{Ty}
 use Rattle.ax_module.specs.declared.inst.Inst.{Inst}
 use Rattle.ax_module.specs.declared.module.Block.{Block}
 use Rattle.ax_module.specs.WellFormed.{is_count, is_function_counted, is_counted}
-use Rattle.ax_symbols.specs.declared.symbol.Span.{Span}
+use Rattle.ax_symbols.specs.declared.symbol.NameSpan.{NameSpan}
 use Rattle.ax_lines.specs.declared.statement.Line.{Line}
 use Rattle.ax_lines.specs.declared.statement.Line.TheVariants as line
 use Rattle.ax_lines.specs.Lines.{param_count}
@@ -102,7 +102,7 @@ module _ (text : List ℕ) (globals : List ℕ → Option Meaning) where
       let ps_few : length ps < 2 ^ 32 = All-head IsFew (line.Define f r ps) ls h in
       and_from _ _
       (and_from _ _
-      (and_from _ _ (counted (length (map (λ (p : Ty × Span). p.0) ps)) (omega (arith, length-map ps (λ (p : Ty × Span). p.0), ps_few))) (counted (length (blocks_in x inside)) (omega (arith, blocks_count x inside, few, lt))))
+      (and_from _ _ (counted (length (map (λ (p : Ty × NameSpan). p.0) ps)) (omega (arith, length-map ps (λ (p : Ty × NameSpan). p.0), ps_few))) (counted (length (blocks_in x inside)) (omega (arith, blocks_count x inside, few, lt))))
       (counted (length (insts (blocks_in x inside))) (omega (arith, insts_count x inside, few, lt))))
       (functions_counted ls (omega (arith, lt)) (All-tail IsFew (line.Define f r ps) ls h))
   functions_counted (l ∷ ls) lt h = functions_counted ls (omega (arith, lt)) (All-tail IsFew l ls h)

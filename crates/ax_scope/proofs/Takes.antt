@@ -6,7 +6,7 @@ use Rattle.std.specs.List.{prefix_len}
 use Rattle.ax_module.specs.declared.types.Ty.{Ty}
 use Rattle.ax_module.specs.declared.module.Block.{Block}
 use Rattle.ax_module.specs.declared.module.Function.{Function}
-use Rattle.ax_symbols.specs.declared.symbol.Span.{Span}
+use Rattle.ax_symbols.specs.declared.symbol.NameSpan.{NameSpan}
 use Rattle.ax_lines.specs.declared.statement.Line.{Line}
 use Rattle.ax_lines.specs.declared.statement.Line.TheVariants.{Define}
 use Rattle.ax_scope.specs.declared.meaning.Meaning.{Meaning}
@@ -23,7 +23,7 @@ use Rattle.ax_scope.proofs.Functions.{first_behind_none, first_before, faults_sp
 
 -- ---- what the names of a function stand for
 
-module _ (text : List ℕ) (globals : List ℕ → Option Meaning) (ps : List (Ty × Span)) (inside : List Line) where
+module _ (text : List ℕ) (globals : List ℕ → Option Meaning) (ps : List (Ty × NameSpan)) (inside : List Line) where
   pub same_looks : (entry : List ℕ) (values blocks : List (List ℕ × Meaning)) → entry ≡ entry_name text ps
       → values ≡ added [] (values_of text ps inside) → blocks ≡ added [] (blocks_of text entry inside)
       → record { text = text; globals = globals; values = look values; blocks = look blocks } ≡ looks_of text globals ps inside
@@ -46,7 +46,7 @@ module _ (text : List ℕ) (globals : List ℕ → Option Meaning) (ps : List (T
 
 -- ---- a function among the lines of a text
 
-module _ (text : List ℕ) (globals : List ℕ → Option Meaning) (f : Span) (r : Option Ty) (ps : List (Ty × Span)) (behind : List Line) (number : ℕ) where
+module _ (text : List ℕ) (globals : List ℕ → Option Meaning) (f : NameSpan) (r : Option Ty) (ps : List (Ty × NameSpan)) (behind : List Line) (number : ℕ) where
   abbrev inside : List Line
   inside = take (prefix_len is_inner behind) behind
 

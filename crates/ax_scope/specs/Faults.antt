@@ -5,7 +5,7 @@ use Rattle.std.specs.List.{starts_with}
 use Rattle.std.specs.Str.{bytes_eq}
 use Rattle.ax_module.specs.declared.types.Ty.{Ty}
 use Rattle.ax_module.specs.declared.inst.Inst.{Inst}
-use Rattle.ax_symbols.specs.declared.symbol.Span.{Span}
+use Rattle.ax_symbols.specs.declared.symbol.NameSpan.{NameSpan}
 use Rattle.ax_lines.specs.declared.statement.Line.{Line}
 use Rattle.ax_lines.specs.declared.statement.Line.TheVariants as line
 use Rattle.ax_scope.specs.declared.meaning.Meaning.{Meaning}
@@ -54,11 +54,11 @@ pub record Body : Type 0 where
   pub so_far : List (List ℕ)
 
 -- what the names of a function stand for
-abbrev pub looks_of : List ℕ → (List ℕ → Option Meaning) → List (Ty × Span) → List Line → Looks
+abbrev pub looks_of : List ℕ → (List ℕ → Option Meaning) → List (Ty × NameSpan) → List Line → Looks
 looks_of text globals ps inside = record { text = text; globals = globals; values = look (values_of text ps inside); blocks = look (blocks_of text (entry_name text ps) inside) }
 
 -- a function at its first line
-abbrev pub body_of : List ℕ → (List ℕ → Option Meaning) → List (Ty × Span) → List Line → Body
+abbrev pub body_of : List ℕ → (List ℕ → Option Meaning) → List (Ty × NameSpan) → List Line → Body
 body_of text globals ps inside = record { looks = looks_of text globals ps inside; entry = entry_name text ps; first = true; so_far = map (λ p. text_at text p.1) ps }
 
 -- the names that a line declares in its function

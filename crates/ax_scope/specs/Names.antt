@@ -3,18 +3,18 @@ use Rattle.std.specs.Prelude.{ℕ, ◌+◌, ◌-◌, Bool, true, false, cond, no
 use Rattle.std.specs.List.{list_all, count_by, prefix_len}
 use Rattle.ax_lex.specs.Bytes.{is_digit}
 use Rattle.ax_module.specs.declared.types.Ty.{Ty}
-use Rattle.ax_symbols.specs.declared.symbol.Span.{Span}
+use Rattle.ax_symbols.specs.declared.symbol.NameSpan.{NameSpan}
 use Rattle.ax_lines.specs.declared.statement.Line.{Line}
 use Rattle.ax_lines.specs.declared.statement.Line.TheVariants as line
 use Rattle.ax_scope.specs.declared.meaning.Meaning.{Meaning}
 use Rattle.ax_scope.specs.declared.meaning.Meaning.TheVariants as meaning
 
 -- the bytes of a name
-abbrev pub text_at : List ℕ → Span → List ℕ
+abbrev pub text_at : List ℕ → NameSpan → List ℕ
 text_at text s = take (min s.end (length text) - min s.start (min s.end (length text))) (drop (min s.start (min s.end (length text))) text)
 
 -- the bytes of a name that may be absent
-abbrev pub maybe_at : List ℕ → Option Span → Option (List ℕ)
+abbrev pub maybe_at : List ℕ → Option NameSpan → Option (List ℕ)
 maybe_at text None = None
 maybe_at text (Some s) = Some (text_at text s)
 
@@ -52,7 +52,7 @@ globals_from text k [] = []
 globals_from text k (l ∷ ls) = declared (global_name text l) (meaning.Global k) ++ globals_from text (k + count_some (global_name text l)) ls
 
 -- the parameters, numbered from k
-abbrev pub params_from : List ℕ → ℕ → List (Ty × Span) → List (List ℕ × Meaning)
+abbrev pub params_from : List ℕ → ℕ → List (Ty × NameSpan) → List (List ℕ × Meaning)
 params_from text k [] = []
 params_from text k (p ∷ ps) = (text_at text p.1, meaning.Param k) ∷ params_from text (k + 1) ps
 
@@ -74,7 +74,7 @@ abbrev pub is_number : List ℕ → Bool
 is_number name = not (length name == 0) && list_all is_digit name
 
 -- the name of an entry block without a label: the number of parameters whose names are numbers
-abbrev pub entry_name : List ℕ → List (Ty × Span) → List ℕ
+abbrev pub entry_name : List ℕ → List (Ty × NameSpan) → List ℕ
 entry_name text ps = decimal (count_by (λ p. is_number (text_at text p.1)) ps)
 
 -- The block that begins at a line, where one does: at a label, and at an instruction that is the
@@ -96,7 +96,7 @@ blocks_from text entry first k (l ∷ ls) = declared (block_name text entry firs
 
 -- ---- what the names of a function stand for
 
-abbrev pub values_of : List ℕ → List (Ty × Span) → List Line → List (List ℕ × Meaning)
+abbrev pub values_of : List ℕ → List (Ty × NameSpan) → List Line → List (List ℕ × Meaning)
 values_of text ps inside = params_from text 0 ps ++ results_from text 0 inside
 
 abbrev pub blocks_of : List ℕ → List ℕ → List Line → List (List ℕ × Meaning)

@@ -11,7 +11,7 @@ use Rattle.ax_module.specs.declared.operand.Arg.TheVariants as arg
 use Rattle.ax_module.specs.declared.inst.Inst.{Inst}
 use Rattle.ax_module.specs.declared.inst.Inst.TheVariants as inst
 use Rattle.ax_module.specs.Types.{type_bytes}
-use Rattle.ax_symbols.specs.declared.symbol.Span.{Span}
+use Rattle.ax_symbols.specs.declared.symbol.NameSpan.{NameSpan}
 use Rattle.ax_symbols.specs.declared.values.Value.{Value}
 use Rattle.ax_symbols.specs.declared.values.Value.TheVariants as value
 use Rattle.ax_symbols.specs.declared.values.Base.{Base as NamedBase}
@@ -70,7 +70,7 @@ abbrev pub base_of : Looks → NamedBase → Option Base
 base_of x (named.Global s) = global_in (x.globals (text_at x.text s))
 base_of x (named.Local s) = local_in (x.values (text_at x.text s))
 
-abbrev pub block_of : Looks → Span → Option ℕ
+abbrev pub block_of : Looks → NameSpan → Option ℕ
 block_of x s = block_in (x.blocks (text_at x.text s))
 
 abbrev pub addr_of : Looks → Pointer → Option Addr
@@ -97,7 +97,7 @@ args_of x (a ∷ rest) = do
   more ← args_of x rest
   Some (this ∷ more)
 
-abbrev pub incoming_of : Looks → List (Value × Span) → Option (List (Operand × ℕ))
+abbrev pub incoming_of : Looks → List (Value × NameSpan) → Option (List (Operand × ℕ))
 incoming_of x [] = Some []
 incoming_of x (p ∷ ps) = do
   v ← operand_of x p.0

@@ -14,10 +14,10 @@ use crate::name_table::NameTable;
 use ax_lex::is_digit;
 use ax_lines::Line;
 use ax_module::Ty;
-use ax_symbols::Span;
+use ax_symbols::NameSpan;
 use std::alloc::{AllocError, Global};
 
-fn maybe_at<'a>(text: &'a [u8], span: Option<Span>) -> Option<&'a [u8]>
+fn maybe_at<'a>(text: &'a [u8], span: Option<NameSpan>) -> Option<&'a [u8]>
     ensures { option_map (λ n. n.now) result ≡ maybe_at text.now span }
 {
     match span {
@@ -116,7 +116,7 @@ fn is_number(name: &[u8]) -> bool
     !name.is_empty() && has_digits_alone(name)
 }
 
-fn number_count(text: &[u8], params: &[(Ty, Span)]) -> usize
+fn number_count(text: &[u8], params: &[(Ty, NameSpan)]) -> usize
     ensures { result ≡ count_by (λ p. is_number (text_at text.now p.1)) params.now }
 {
     let mut count = 0;
@@ -129,7 +129,11 @@ fn number_count(text: &[u8], params: &[(Ty, Span)]) -> usize
 }
 
 /// The name of an entry block without a label: the number of parameters that have numbers as names.
-pub fn entry_name(alloc: Global, text: &[u8], params: &[(Ty, Span)]) -> Result<String, AllocError>
+pub fn entry_name(
+    alloc: Global,
+    text: &[u8],
+    params: &[(Ty, NameSpan)],
+) -> Result<String, AllocError>
     ensures { IfOk result (λ s. string_bytes s ≡ entry_name text.now params.now) }
 {
     let count = number_count(text, params);
@@ -155,7 +159,7 @@ pub fn globals_of(alloc: Global, text: &[u8], lines: &[Line]) -> Result<NameTabl
 fn add_params(
     alloc: Global,
     text: &[u8],
-    params: &[(Ty, Span)],
+    params: &[(Ty, NameSpan)],
     values: &mut NameTable,
 ) -> Result<(), AllocError>
     requires { length params.now < 2 ^ 32 }
@@ -214,7 +218,7 @@ pub fn locals_of(
     alloc: Global,
     text: &[u8],
     entry: &[u8],
-    params: &[(Ty, Span)],
+    params: &[(Ty, NameSpan)],
     inside: &[Line],
 ) -> Result<Locals, AllocError>
     requires params { length params.now < 2 ^ 32 }

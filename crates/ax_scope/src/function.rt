@@ -17,7 +17,7 @@ use crate::name_table::NameTable;
 use crate::seen::Seen;
 use ax_lines::Line;
 use ax_module::{Block, Function, Name, Ty};
-use ax_symbols::Span;
+use ax_symbols::NameSpan;
 use ax_words::Items;
 use std::alloc::{AllocError, Global};
 
@@ -26,7 +26,7 @@ fn body_in(
     alloc: Global,
     text: &[u8],
     globals: &NameTable,
-    params: &[(Ty, Span)],
+    params: &[(Ty, NameSpan)],
     so_far: Seen,
     inside: &[Line],
     start: usize,
@@ -48,7 +48,7 @@ fn body_in(
     blocks_in(alloc, &names, entry.as_bytes(), so_far, inside, start)
 }
 
-fn types_of(alloc: Global, params: &[(Ty, Span)]) -> Result<Vec<Ty>, AllocError>
+fn types_of(alloc: Global, params: &[(Ty, NameSpan)]) -> Result<Vec<Ty>, AllocError>
     ensures { IfOk result (λ v. v.items ≡ map (λ p. p.0) params.now) }
 {
     let mut types = Vec::with_capacity(alloc, params.len())?;
@@ -61,9 +61,9 @@ fn types_of(alloc: Global, params: &[(Ty, Span)]) -> Result<Vec<Ty>, AllocError>
 /// What a function's head states.
 #[derive(Clone, Copy)]
 struct Head<'a> {
-    name: Span,
+    name: NameSpan,
     result: Option<Ty>,
-    params: &'a [(Ty, Span)],
+    params: &'a [(Ty, NameSpan)],
 }
 
 fn result_or(ty: Option<Ty>) -> Ty

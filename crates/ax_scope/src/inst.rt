@@ -11,7 +11,7 @@ use crate::locals::{Names, text_at};
 use crate::resolve::{addr_of, arg_of, base_of, block_of, operand_of};
 use ax_lines::{Argument, Path, Pointer, Statement};
 use ax_module::{Arg, BinOp, Cast, Inst, Name, Operand, Pred, Ty};
-use ax_symbols::{Span, Value};
+use ax_symbols::{NameSpan, Value};
 use ax_words::{Items, Order, RmwOp};
 use std::alloc::Global;
 
@@ -52,7 +52,7 @@ fn conversion(names: &Names, cast: Cast, from: Ty, value: Value, to: Ty) -> Opti
 }
 
 #[tactic(auto, unfolding(crate::specs::Resolve::inst_of))]
-fn branch(names: &Names, test: Value, yes: Span, no: Span) -> Option<Inst>
+fn branch(names: &Names, test: Value, yes: NameSpan, no: NameSpan) -> Option<Inst>
     ensures { result ≡ inst_of (looks names.now) (Branch test yes no) }
 {
     let test = operand_of(names, test)?;
@@ -62,7 +62,7 @@ fn branch(names: &Names, test: Value, yes: Span, no: Span) -> Option<Inst>
 }
 
 #[tactic(auto, unfolding(crate::specs::Resolve::inst_of))]
-fn jump(names: &Names, to: Span) -> Option<Inst>
+fn jump(names: &Names, to: NameSpan) -> Option<Inst>
     ensures { result ≡ inst_of (looks names.now) (Jump to) }
 {
     let to = block_of(names, to)?;
@@ -197,7 +197,7 @@ fn args_of(alloc: Global, names: &Names, arguments: &[Argument]) -> Result<Vec<A
 fn incoming_of(
     alloc: Global,
     names: &Names,
-    pairs: &[(Value, Span)],
+    pairs: &[(Value, NameSpan)],
 ) -> Result<Vec<(Operand, u32)>, NameStop>
     ensures { Resolves (λ v. v.items) result (incoming_of (looks names.now) pairs.now) }
 {
@@ -211,7 +211,12 @@ fn incoming_of(
 }
 
 #[tactic(auto, unfolding(crate::specs::Resolve::inst_of))]
-fn phi(alloc: Global, names: &Names, ty: Ty, pairs: &Items<(Value, Span)>) -> Result<Inst, NameStop>
+fn phi(
+    alloc: Global,
+    names: &Names,
+    ty: Ty,
+    pairs: &Items<(Value, NameSpan)>,
+) -> Result<Inst, NameStop>
     ensures { Resolves (λ i. i) result (inst_of (looks names.now) (Phi ty pairs.now)) }
 {
     let incoming = incoming_of(alloc, names, pairs.as_slice())?;
@@ -223,7 +228,7 @@ fn call(
     alloc: Global,
     names: &Names,
     ty: Option<Ty>,
-    callee: Span,
+    callee: NameSpan,
     arguments: &Items<Argument>,
 ) -> Result<Inst, NameStop>
     ensures { Resolves (λ i. i) result (inst_of (looks names.now) (Call ty callee arguments.now)) }

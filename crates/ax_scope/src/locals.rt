@@ -4,7 +4,7 @@ ghost use Rattle.std.specs.Prelude.{◌≡◌};
 ghost use Rattle.ax_scope.specs.Names.{text_at};
 
 use crate::name_table::NameTable;
-use ax_symbols::Span;
+use ax_symbols::NameSpan;
 
 /// The parameters and results of a function, and its blocks.
 #[derive(Drop)]
@@ -22,7 +22,7 @@ pub struct Names<'a> {
 }
 
 /// The bytes of a name.
-pub fn text_at(text: &[u8], span: Span) -> &[u8]
+pub fn text_at(text: &[u8], span: NameSpan) -> &[u8]
     ensures { result.now ≡ text_at text.now span }
 {
     let end = span.end.min(text.len());

@@ -11,7 +11,7 @@ use crate::locals::text_at;
 use crate::seen::Seen;
 use ax_lines::Line;
 use ax_module::Ty;
-use ax_symbols::Span;
+use ax_symbols::NameSpan;
 use std::alloc::Global;
 
 /// Declares a name where there is one.
@@ -56,7 +56,7 @@ fn is_reserved(text: &[u8], line: &Line) -> bool
 fn declare_params(
     alloc: Global,
     text: &[u8],
-    params: &[(Ty, Span)],
+    params: &[(Ty, NameSpan)],
     so_far: &mut Seen,
 ) -> Result<(), NameStop>
     ensures { Declares so_far.old so_far.new (map (λ p. text_at text.now p.1) params.now) result }

@@ -9,7 +9,7 @@ use crate::locals::{Names, text_at};
 use crate::meaning::Meaning;
 use ax_lines::{Argument, Path, Pointer};
 use ax_module::{Addr, Arg, Base, Operand};
-use ax_symbols::{Base as NamedBase, Span, Value};
+use ax_symbols::{Base as NamedBase, NameSpan, Value};
 
 fn operand_in(meaning: Option<Meaning>) -> Option<Operand>
     ensures { result ≡ operand_in meaning }
@@ -71,7 +71,7 @@ pub fn base_of(names: &Names, base: NamedBase) -> Option<Base>
 }
 
 /// The number of a block.
-pub fn block_of(names: &Names, span: Span) -> Option<u32>
+pub fn block_of(names: &Names, span: NameSpan) -> Option<u32>
     ensures { result ≡ block_of (looks names.now) span }
 {
     block_in(names.locals.blocks.find(text_at(names.text, span)))

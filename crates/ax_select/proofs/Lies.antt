@@ -8,8 +8,9 @@ use Rattle.ax_module.specs.declared.types.Ty.{Ty}
 use Rattle.ax_module.specs.declared.types.Ty.TheVariants.{I8, I16, I32, I64, I128}
 use Rattle.ax_module.specs.Types.{type_bytes}
 use Rattle.ax_layout.specs.Classes.{class_of}
-use Rattle.ax_layout.specs.declared.span.Span.{Span}
-use Rattle.ax_layout.specs.Layout.{CanBeLaidOut, HasElement, IsLaidOut, LayoutState, address_in, bytes_in, end_of_span, globals_start, is_element_type, layout_of, nowhere, span_after, span_in, spans_after}
+use Rattle.ax_layout.specs.declared.address_range.AddressRange.{AddressRange}
+use Rattle.ax_map.specs.Map.{globals_start}
+use Rattle.ax_layout.specs.Layout.{CanBeLaidOut, HasElement, IsLaidOut, LayoutState, address_in, bytes_in, end_of_span, is_element_type, layout_of, nowhere, span_after, span_in, spans_after}
 use Rattle.ax_layout.specs.Regions.{AreThoseOfTheModule, InLayouts, IsThatOf}
 use Rattle.ax_mid.specs.declared.code.MidGlobal.{MidGlobal}
 use Rattle.ax_source_run.specs.SourceAccess.{is_native_class, is_native_element}
@@ -68,7 +69,7 @@ module _ (program : SourceProgram) (layout : program.layout ≡ layout_of progra
       let span = span_in program.layout g in
       let rest : drop g spans ≡ span ∷ drop (g + 1) spans = drop-cons spans g nowhere (omega (arith, lt, count)) ∙ ap (λ (n : ℕ). span ∷ drop n spans) (sym (add-one g)) in
       let more = globals_from program (g + 1) (drop (g + 1) spans) in
-      ap (λ (xs : List MidGlobal). xs ++ more) e ∙ (append_assoc made (mid_global program program.layout g span ∷ []) more ∙ (ap (λ (xs : List Span). made ++ globals_from program g xs) (sym rest) ∙ h))
+      ap (λ (xs : List MidGlobal). xs ++ more) e ∙ (append_assoc made (mid_global program program.layout g span ∷ []) more ∙ (ap (λ (xs : List AddressRange). made ++ globals_from program g xs) (sym rest) ∙ h))
 
   -- the last one is reached
   pub globals_end : (g : ℕ) → length program.source.globals ≤ g → (made whole : List MidGlobal) → made ++ globals_from program g (drop g program.layout.spans) ≡ whole → made ≡ whole
@@ -77,4 +78,4 @@ module _ (program : SourceProgram) (layout : program.layout ≡ layout_of progra
       let count = spans_counted in
       let past : length spans ≤ g = omega (arith, le, count) in
       let none : drop g spans ≡ [] = drop_of_length-le spans past in
-      sym (append-nil made) ∙ (ap (λ (xs : List Span). made ++ globals_from program g xs) (sym none) ∙ h)
+      sym (append-nil made) ∙ (ap (λ (xs : List AddressRange). made ++ globals_from program g xs) (sym none) ∙ h)

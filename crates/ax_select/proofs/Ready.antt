@@ -23,7 +23,7 @@ use Rattle.ax_module.specs.declared.operand.Operand.{Operand}
 use Rattle.ax_module.specs.declared.operand.Operand.TheVariants as operand
 use Rattle.ax_module.specs.declared.types.Ty.{Ty}
 use Rattle.ax_module.specs.declared.types.Ty.TheVariants.{I1, I8, I16, I32, I64, I128, Int, Float, Double, Ptr, Vector}
-use Rattle.ax_module.specs.WellFormed.{Scope, has_result_at, is_addr, is_arg, is_base, is_block_number, is_constant, is_count, is_entry, is_function_counted, is_inst, is_nonempty, is_operand, is_order, is_result_type, is_callee_name, is_step, is_type, is_typed, scope_of as formed_scope}
+use Rattle.ax_module.specs.WellFormed.{NameCounts, has_result_at, is_addr, is_arg, is_base, is_block_number, is_constant, is_count, is_entry, is_function_counted, is_inst, is_nonempty, is_operand, is_order, is_result_type, is_callee_name, is_step, is_type, is_typed, scope_of as formed_scope}
 use Rattle.ax_words.specs.declared.order.Access.{Access}
 use Rattle.ax_words.specs.declared.order.Access.TheVariants.{CmpFailure, CmpSuccess}
 use Rattle.ax_words.specs.declared.order.Order.{Order}
@@ -93,7 +93,7 @@ legal : (a : Access) (o : Order) → is_legal a Unordered ≡ false → not (is_
 legal a o none h e = true≢false (sym (is_true (is_legal a o) h) ∙ (ap (is_legal a) e ∙ none))
 
 -- ---- what an instruction names
-module _ (scope : Scope) (few : length scope.insts ≤ 2048) where
+module _ (scope : NameCounts) (few : length scope.insts ≤ 2048) where
   within : (k : ℕ) (o : Option Inst) → slice_get scope.insts k ≡ o → has_result_at o ≡ true → k < 2048
   within k None e h = absurd (false≢true h)
   within k (Some i) e h = let l = slice_get_within scope.insts k i e in omega (arith, l, few)
@@ -167,7 +167,7 @@ module _ (scope : Scope) (few : length scope.insts ≤ 2048) where
 
 -- ---- an instruction of a function
 module _ (program : SourceProgram) (accepted : IsAccepted program) (law : AtInstructions IsSound) (n : ℕ) (f : Function) (at : slice_get program.source.functions n ≡ Some f) (number : n < 64) (head : IsSoundHead n f) where
-  abbrev scope : Scope
+  abbrev scope : NameCounts
   scope = formed_scope (length program.source.globals) f
 
   few : length (all_insts f.blocks) ≤ 2048

@@ -27,7 +27,7 @@ use Rattle.ax_mid.specs.declared.code.Line.{Line}
 use Rattle.ax_mid.specs.declared.code.Mid.{Mid}
 use Rattle.ax_mid.specs.declared.registers.Virtual.{Virtual}
 use Rattle.ax_mid.specs.Processor.{MidProcessor}
-use Rattle.ax_rules.specs.declared.facts.Scope.{Scope}
+use Rattle.ax_rules.specs.declared.facts.FunctionScope.{FunctionScope}
 use Rattle.ax_rules.specs.Facts.{scope_of}
 use Rattle.ax_rules.specs.Kind.{is_bad_gep, is_bad_pointer, is_other}
 use Rattle.ax_access_rules.specs.Mixed.{is_mistyped, is_mixed_inst, is_mixed_pointer}
@@ -81,7 +81,7 @@ module _ (program : SourceProgram) (accepted : IsAccepted program) (law : AtInst
   abbrev pub is : standing.Stands program accepted law s i
   is = standing.stands program accepted law s i known.next
 
-  abbrev pub scope : Scope
+  abbrev pub scope : FunctionScope
   scope = scope_of m is.function
 
   abbrev pub sound : IsSound program is.function (record { block = s.block; number = k; inst = i })

@@ -23,7 +23,7 @@ use Rattle.ax_mid.specs.Processor.{MidDeed, MidProcessor, unseen}
 use Rattle.ax_words.specs.declared.source.SourceStatus.{SourceStatus}
 use Rattle.ax_rules.specs.declared.facts.Outcome.{Outcome}
 use Rattle.ax_rules.specs.declared.facts.Outcome.TheVariants as outcome
-use Rattle.ax_rules.specs.declared.facts.Scope.{Scope}
+use Rattle.ax_rules.specs.declared.facts.FunctionScope.{FunctionScope}
 use Rattle.ax_rules.specs.Facts.{outcome_at, scope_of}
 use Rattle.ax_access_rules.specs.Mixed.{is_mistyped, is_number_of}
 use Rattle.ax_rules.specs.Parts.{operands_of}
@@ -85,7 +85,7 @@ module _ (program : SourceProgram) (accepted : IsAccepted program) (law : AtInst
   is : standing.Stands program accepted law s i
   is = standing.stands program accepted law s i known.next
 
-  abbrev scope : Scope
+  abbrev scope : FunctionScope
   scope = scope_of program.source is.function
 
   pub outcome_is : outcome_in program.source s.function k ≡ Rattle.ax_rules.specs.Facts.outcome_of i

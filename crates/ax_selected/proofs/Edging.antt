@@ -27,7 +27,7 @@ use Rattle.ax_mid.specs.declared.registers.Virtual.{Virtual}
 use Rattle.ax_mid.specs.Processor.{MidProcessor}
 use Rattle.ax_rules.specs.declared.facts.Outcome.{Outcome}
 use Rattle.ax_rules.specs.declared.facts.Outcome.TheVariants as outcome
-use Rattle.ax_rules.specs.declared.facts.Scope.{Scope}
+use Rattle.ax_rules.specs.declared.facts.FunctionScope.{FunctionScope}
 use Rattle.ax_rules.specs.Facts.{outcome_at, outcome_of, scope_of}
 use Rattle.ax_rules.specs.Limits.{has_many_phis}
 use Rattle.ax_access_rules.specs.Mixed.{is_mistyped, is_mixed_inst, is_mixed_pointer, is_number_of}
@@ -92,7 +92,7 @@ module _ (program : SourceProgram) (accepted : IsAccepted program) (law : AtInst
 
   -- ---- the phis of a block
   module _ (g : Function) (at : slice_get m.functions f ≡ Some g) where
-    abbrev scope : Scope
+    abbrev scope : FunctionScope
     scope = scope_of m g
 
     number_is : (t : Ty) (r : ℕ) (o : Outcome) → outcome_at scope r ≡ o → not (is_number_of t o) ≡ false → outcome_in m f r ≡ outcome.Number t

@@ -11,8 +11,9 @@ use Rattle.ax_module.specs.declared.module.Global.{Global}
 use Rattle.ax_module.specs.declared.types.Ty.{Ty}
 use Rattle.ax_module.specs.declared.types.Ty.TheVariants.{I8, I16, I32, I64, I128}
 use Rattle.ax_module.specs.Types.{type_bytes}
-use Rattle.ax_layout.specs.Layout.{CanBeLaidOut, IsLaidOut, LayoutState, alignment_of, end_after, end_of_span, globals_start, is_alignment, is_element_type, nowhere, span_after, span_in, spans_after}
-use Rattle.ax_layout.specs.declared.span.Span.{Span}
+use Rattle.ax_map.specs.Map.{globals_start}
+use Rattle.ax_layout.specs.Layout.{CanBeLaidOut, IsLaidOut, LayoutState, alignment_of, end_after, end_of_span, is_alignment, is_element_type, nowhere, span_after, span_in, spans_after}
+use Rattle.ax_layout.specs.declared.address_range.AddressRange.{AddressRange}
 use Rattle.ax_layout.specs.Regions.{MultiplesAreNext}
 use Rattle.ax_layout.specs.Classes.{class_of}
 use Rattle.ax_source_run.specs.SourceAccess.{is_native_class}
@@ -84,14 +85,14 @@ module _ (next : MultiplesAreNext) where
       let rest = goes_on (end_of_span (span_after end x)) globals (All-tail IsLaidOut x globals all) in
       omega (arith, here, rest)
 
-  record Row (end : ℕ) (globals : List Global) (span : Span) : Type 0 where
+  record Row (end : ℕ) (globals : List Global) (span : AddressRange) : Type 0 where
     least : 1 ≤ span.count
     most : span.count ≤ 65536
     size : IsWidth span.bytes
     from : end ≤ span.start
     to : end_of_span span ≤ end_after end globals
 
-  row : (end : ℕ) (globals : List Global) → All IsLaidOut globals → (k : ℕ) (span : Span) → slice_get (spans_after end globals) k ≡ Some span → Row end globals span
+  row : (end : ℕ) (globals : List Global) → All IsLaidOut globals → (k : ℕ) (span : AddressRange) → slice_get (spans_after end globals) k ≡ Some span → Row end globals span
   row end [] all k span e = absurd (none-some span e)
   row end (x ∷ globals) all zero span e =
       let is = All-head IsLaidOut x globals all in
@@ -108,21 +109,21 @@ module _ (next : MultiplesAreNext) where
       let from = r.from in
       record { least = r.least; most = r.most; size = r.size; from = omega (arith, here, from); to = r.to }
 
-  rows_apart : (end : ℕ) (globals : List Global) → All IsLaidOut globals → (j k : ℕ) (a b : Span) → j < k → slice_get (spans_after end globals) j ≡ Some a → slice_get (spans_after end globals) k ≡ Some b → end_of_span a ≤ b.start
+  rows_apart : (end : ℕ) (globals : List Global) → All IsLaidOut globals → (j k : ℕ) (a b : AddressRange) → j < k → slice_get (spans_after end globals) j ≡ Some a → slice_get (spans_after end globals) k ≡ Some b → end_of_span a ≤ b.start
   rows_apart end [] all j k a b lt ea eb = absurd (none-some a ea)
   rows_apart end (x ∷ globals) all zero zero a b lt ea eb = absurd (omega (arith, lt))
   rows_apart end (x ∷ globals) all zero (suc k) a b lt ea eb =
       let r = row (end_of_span (span_after end x)) globals (All-tail IsLaidOut x globals all) k b eb in
-      subst (λ (s : Span). end_of_span s ≤ b.start) (same_Some (span_after end x) a ea) r.from
+      subst (λ (s : AddressRange). end_of_span s ≤ b.start) (same_Some (span_after end x) a ea) r.from
   rows_apart end (x ∷ globals) all (suc j) zero a b lt ea eb = absurd (omega (arith, lt))
   rows_apart end (x ∷ globals) all (suc j) (suc k) a b lt ea eb = rows_apart (end_of_span (span_after end x)) globals (All-tail IsLaidOut x globals all) j k a b (omega (arith, lt)) ea eb
 
-record FromSpan (program : SourceProgram) (spans : List Span) (n k : ℕ) (g : MidGlobal) : Type 0 where
-  span : Span
+record FromSpan (program : SourceProgram) (spans : List AddressRange) (n k : ℕ) (g : MidGlobal) : Type 0 where
+  span : AddressRange
   at : slice_get spans k ≡ Some span
   is : g ≡ mid_global program program.layout (n + k) span
 
-from_span : (program : SourceProgram) (n : ℕ) (spans : List Span) (k : ℕ) (g : MidGlobal) → slice_get (globals_from program n spans) k ≡ Some g → FromSpan program spans n k g
+from_span : (program : SourceProgram) (n : ℕ) (spans : List AddressRange) (k : ℕ) (g : MidGlobal) → slice_get (globals_from program n spans) k ≡ Some g → FromSpan program spans n k g
 from_span program n [] k g e = absurd (none-some g e)
 from_span program n (x ∷ spans) zero g e =
     let same : n ≡ n + 0 = omega arith in
@@ -136,7 +137,7 @@ span_count : (end : ℕ) (globals : List Global) → length (spans_after end glo
 span_count end [] = refl
 span_count end (x ∷ globals) = let e = span_count (end_of_span (span_after end x)) globals in omega (arith, e)
 
-global_count : (program : SourceProgram) (n : ℕ) (spans : List Span) → length (globals_from program n spans) ≡ length spans
+global_count : (program : SourceProgram) (n : ℕ) (spans : List AddressRange) → length (globals_from program n spans) ≡ length spans
 global_count program n [] = refl
 global_count program n (x ∷ spans) = let e = global_count program (n + 1) spans in omega (arith, e)
 
@@ -185,10 +186,10 @@ module _ (laws : Laws) (next : MultiplesAreNext) (program : SourceProgram) (acce
   spans_are : program.layout.spans ≡ spans_after globals_start program.source.globals
   spans_are = ap (λ (l : LayoutState). l.spans) accepted.layout
 
-  placed_at : (k : ℕ) (span : Span) → slice_get program.layout.spans k ≡ Some span → IsPlaced program.target (mid_global program program.layout (0 + k) span)
+  placed_at : (k : ℕ) (span : AddressRange) → slice_get program.layout.spans k ≡ Some span → IsPlaced program.target (mid_global program program.layout (0 + k) span)
   placed_at k span e =
       let spans = program.layout.spans in
-      let r = row next globals_start program.source.globals can.globals k span (ap (λ (xs : List Span). slice_get xs k) (sym spans_are) ∙ e) in
+      let r = row next globals_start program.source.globals can.globals k span (ap (λ (xs : List AddressRange). slice_get xs k) (sym spans_are) ∙ e) in
       let from = r.from in
       let to = r.to in
       let end = can.end in
@@ -201,14 +202,14 @@ module _ (laws : Laws) (next : MultiplesAreNext) (program : SourceProgram) (acce
         size = r.size;
         above = omega (arith, from);
         below = omega (arith, to, end);
-        class = ap (λ (s : Span). is_native_class (class_of (s.start + 0 * s.bytes) s.bytes program.target)) is ∙ ap (λ (n : ℕ). is_native_class (class_of n span.bytes program.target)) first;
+        class = ap (λ (s : AddressRange). is_native_class (class_of (s.start + 0 * s.bytes) s.bytes program.target)) is ∙ ap (λ (n : ℕ). is_native_class (class_of n span.bytes program.target)) first;
       }
 
   globals_lie : GlobalsLie program.target (selected program)
   globals_lie =
       let spans = program.layout.spans in
       let made = global_count program 0 spans in
-      let count = ap (λ (xs : List Span). length xs) spans_are ∙ span_count globals_start program.source.globals in
+      let count = ap (λ (xs : List AddressRange). length xs) spans_are ∙ span_count globals_start program.source.globals in
       let most = can.count in
       record {
         few = omega (arith, made, count, most);
@@ -216,7 +217,7 @@ module _ (laws : Laws) (next : MultiplesAreNext) (program : SourceProgram) (acce
         apart = λ j k g h lt eg eh.
             let r = from_span program 0 spans j g eg in
             let s = from_span program 0 spans k h eh in
-            let far = rows_apart next globals_start program.source.globals can.globals j k r.span s.span lt (ap (λ (xs : List Span). slice_get xs j) (sym spans_are) ∙ r.at) (ap (λ (xs : List Span). slice_get xs k) (sym spans_are) ∙ s.at) in
+            let far = rows_apart next globals_start program.source.globals can.globals j k r.span s.span lt (ap (λ (xs : List AddressRange). slice_get xs j) (sym spans_are) ∙ r.at) (ap (λ (xs : List AddressRange). slice_get xs k) (sym spans_are) ∙ s.at) in
             subst (λ (x : MidGlobal). x.address + x.count * x.bytes ≤ h.address) (sym r.is)
             (subst (λ (x : MidGlobal). end_of_span r.span ≤ x.address) (sym s.is) far);
       }

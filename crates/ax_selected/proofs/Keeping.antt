@@ -40,7 +40,7 @@ use Rattle.ax_mid.specs.Processor as mid
 use Rattle.ax_mid.specs.Processor.{MidProcessor}
 use Rattle.ax_rules.specs.declared.facts.Origin.{Origin}
 use Rattle.ax_rules.specs.declared.facts.Origin.TheVariants as origin
-use Rattle.ax_rules.specs.declared.facts.Scope.{Scope}
+use Rattle.ax_rules.specs.declared.facts.FunctionScope.{FunctionScope}
 use Rattle.ax_access_rules.specs.Alignment.{is_overstated, is_plain_locked}
 use Rattle.ax_access_rules.specs.Allocas.{is_address, is_late_alloca, misplaced, to_alloca}
 use Rattle.ax_rules.specs.Facts.{extent_of, is_alloca, origin_of, outcome_of}
@@ -296,7 +296,7 @@ module _ (program : SourceProgram) (accepted : IsAccepted program) (law : AtInst
 
   -- ---- accesses
   module _ (i : Inst) (known : Knows i) (a : Addr) (one : pointers_of i ≡ a ∷ []) (body : is_phi i ≡ false) (step : Step program accepted law fit code begins laid most base enough s c numbers alike here_is grounds i known a.step) where
-    abbrev the_scope : Scope
+    abbrev the_scope : FunctionScope
     the_scope = scope program accepted law fit code begins laid most base enough s c numbers alike here_is grounds i known
 
     abbrev stands : standing.Stands program accepted law s i

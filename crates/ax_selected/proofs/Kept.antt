@@ -31,7 +31,7 @@ use Rattle.ax_mid.specs.Machine.{may_wait}
 use Rattle.ax_mid.specs.Processor.{MidProcessor}
 use Rattle.ax_rules.specs.declared.facts.Outcome.{Outcome}
 use Rattle.ax_rules.specs.declared.facts.Outcome.TheVariants as outcome
-use Rattle.ax_rules.specs.declared.facts.Scope.{Scope}
+use Rattle.ax_rules.specs.declared.facts.FunctionScope.{FunctionScope}
 use Rattle.ax_access_rules.specs.Alignment.{overstated, plain_locked}
 use Rattle.ax_access_rules.specs.Allocas.{misplaced}
 use Rattle.ax_rules.specs.Facts.{origin_of, outcome_at}
@@ -100,7 +100,7 @@ module _ (program : SourceProgram) (accepted : IsAccepted program) (law : AtInst
   abbrev into : Addr → Straight → List (Line Virtual)
   into a rest = through f k program (object_of program f a.base) (index_at program f a.base a.step) rest
 
-  abbrev the_scope : (i : Inst) → Knows i → Scope
+  abbrev the_scope : (i : Inst) → Knows i → FunctionScope
   the_scope i known = scope program accepted law fit code begins laid most base enough s c numbers alike here_is grounds i known
 
   abbrev at_spot : (i : Inst) (known : Knows i) → IsSound program (is program accepted law fit code begins laid most base enough s c numbers alike here_is grounds i known).function (record { block = s.block; number = k; inst = i })

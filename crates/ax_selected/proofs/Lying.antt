@@ -6,9 +6,10 @@ use Rattle.std.proofs.lemmas.Bool.{and_from, and_parts, cases_Bool, true≢false
 use Rattle.std.proofs.lemmas.Bool.Decides.{nat_tests}
 use Rattle.std.proofs.lemmas.List.Sums.{sum_by-cons}
 use Rattle.std.proofs.lemmas.Option.{none-some, same_Some, slice_get-get_or}
-use Rattle.ax_layout.specs.declared.span.Span.{Span}
+use Rattle.ax_layout.specs.declared.address_range.AddressRange.{AddressRange}
 use Rattle.ax_layout.specs.Layout.{HasElement, LayoutState, address_in, bytes_in, count_in, nowhere, span_in}
-use Rattle.ax_layout.specs.Regions.{AllLie, AreApart, AreThoseOfTheModule, covers}
+use Rattle.ax_map.specs.Map.{covers}
+use Rattle.ax_layout.specs.Regions.{AllLie, AreApart, AreThoseOfTheModule}
 use Rattle.ax_module.specs.declared.inst.Inst.{Inst}
 use Rattle.ax_module.specs.declared.inst.Inst.TheVariants as inst
 use Rattle.ax_module.specs.declared.module.Block.{Block}
@@ -174,11 +175,11 @@ within_row : (j count b : ℕ) → j < count → j * b + b ≤ count * b
 within_row j count b lt = let e = mul-le-mul_right {m = suc j} {n = count} b lt in omega (arith, e)
 
 module _ (program : SourceProgram) where
-  pub globals_get : (spans : List Span) (d g : ℕ) (x : Span) → slice_get spans g ≡ Some x → slice_get (globals_from program d spans) g ≡ Some (mid_global program program.layout (d + g) x)
+  pub globals_get : (spans : List AddressRange) (d g : ℕ) (x : AddressRange) → slice_get spans g ≡ Some x → slice_get (globals_from program d spans) g ≡ Some (mid_global program program.layout (d + g) x)
   globals_get [] d g x e = absurd (none-some x e)
   globals_get (y ∷ spans) d zero x e =
       let at : d ≡ d + 0 = omega arith in
-      ap (λ (z : Span). Some (mid_global program program.layout d z)) (same_Some y x e) ∙ ap (λ (q : ℕ). Some (mid_global program program.layout q x)) at
+      ap (λ (z : AddressRange). Some (mid_global program program.layout d z)) (same_Some y x e) ∙ ap (λ (q : ℕ). Some (mid_global program program.layout q x)) at
   globals_get (y ∷ spans) d (suc g) x e =
       let at : d + 1 + g ≡ d + suc g = omega arith in
       globals_get spans (d + 1) g x e ∙ ap (λ (q : ℕ). Some (mid_global program program.layout q x)) at
@@ -237,7 +238,7 @@ module _ (program : SourceProgram) where
 
     -- ---- an element of a native global, by its address
     module _ (g j n : ℕ) (v : Global) (e : slice_get program.source.globals g ≡ Some v) (lt : j < v.count) (size : bytes_in layout g ≡ n) (native : is_native_element program g 0 ≡ true) where
-      abbrev span : Span
+      abbrev span : AddressRange
       span = span_in layout g
 
       abbrev a : ℕ

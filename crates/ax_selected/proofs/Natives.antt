@@ -34,7 +34,7 @@ use Rattle.ax_mid.specs.Spots.{spot_of}
 use Rattle.ax_rules.specs.declared.facts.Origin.TheVariants as origin
 use Rattle.ax_rules.specs.declared.facts.Outcome.{Outcome}
 use Rattle.ax_rules.specs.declared.facts.Outcome.TheVariants as outcome
-use Rattle.ax_rules.specs.declared.facts.Scope.{Scope}
+use Rattle.ax_rules.specs.declared.facts.FunctionScope.{FunctionScope}
 use Rattle.ax_access_rules.specs.Alignment.{are_aligned, index_in, is_locked_class, is_overstated, is_overstated_at, is_overstated_in, is_plain_locked, is_plain_locked_in}
 use Rattle.ax_rules.specs.Facts.{extent_of, extent_of_global, origin_of, origin_of_alloca, origin_of_step, origin_of_value, outcome_at}
 use Rattle.ax_rules.specs.Kind.{is_other}
@@ -76,7 +76,7 @@ module _ (program : SourceProgram) (accepted : IsAccepted program) (law : AtInst
   abbrev layout : LayoutState
   layout = program.layout
 
-  abbrev the_scope : Scope
+  abbrev the_scope : FunctionScope
   the_scope = scope program accepted law fit code begins laid most base enough s c numbers alike here_is grounds i known
 
   abbrev stands : standing.Stands program accepted law s i

@@ -34,7 +34,7 @@ use Rattle.ax_mid.specs.Processor.{MidProcessor}
 use Rattle.ax_rules.specs.declared.facts.Extent.{Extent}
 use Rattle.ax_rules.specs.declared.facts.Outcome.{Outcome}
 use Rattle.ax_rules.specs.declared.facts.Outcome.TheVariants as outcome
-use Rattle.ax_rules.specs.declared.facts.Scope.{Scope}
+use Rattle.ax_rules.specs.declared.facts.FunctionScope.{FunctionScope}
 use Rattle.ax_rules.specs.Constants.{constant_index, index_if, is_index_type}
 use Rattle.ax_rules.specs.Facts.{extent_of, extent_of_global, extent_of_outcome, origin_of_alloca, origin_of_step, outcome_at, outcome_of, scope_of}
 use Rattle.ax_rules.specs.Kind.{is_alloca_address, is_bad_pointer, is_gep, is_gep_address, is_object}
@@ -119,7 +119,7 @@ module _ (program : SourceProgram) (accepted : IsAccepted program) (law : AtInst
   abbrev pub is : standing.Stands program accepted law s i
   is = standing.stands program accepted law s i known.next
 
-  abbrev pub scope : Scope
+  abbrev pub scope : FunctionScope
   scope = scope_of m is.function
 
   abbrev used : ℕ → Use

@@ -24,9 +24,10 @@ use Rattle.ax_module.specs.declared.operand.Operand.TheVariants as operand
 use Rattle.ax_module.specs.declared.types.Ty.{Ty}
 use Rattle.ax_module.specs.declared.types.Ty.TheVariants.{I1, I8, I16, I32, I64, I128, Int, Float, Double, Ptr, Vector}
 use Rattle.ax_module.specs.Types.{type_bytes}
-use Rattle.ax_module.specs.WellFormed.{Scope, has_result_at, is_addr, is_arg, is_base, is_bit, is_block_number, is_callee_name, is_entry, is_inst, is_nonempty, is_operand, is_order, is_result_type, is_step, is_type, is_typed, scope_of as formed_scope}
-use Rattle.ax_layout.specs.declared.span.Span.{Span}
-use Rattle.ax_layout.specs.Layout.{IsLaidOut, LayoutState, address_in, end_of_span, globals_start, is_element_type, nowhere, span_after, span_in, spans_after}
+use Rattle.ax_module.specs.WellFormed.{NameCounts, has_result_at, is_addr, is_arg, is_base, is_bit, is_block_number, is_callee_name, is_entry, is_inst, is_nonempty, is_operand, is_order, is_result_type, is_step, is_type, is_typed, scope_of as formed_scope}
+use Rattle.ax_layout.specs.declared.address_range.AddressRange.{AddressRange}
+use Rattle.ax_map.specs.Map.{globals_start}
+use Rattle.ax_layout.specs.Layout.{IsLaidOut, LayoutState, address_in, end_of_span, is_element_type, nowhere, span_after, span_in, spans_after}
 use Rattle.ax_source_run.specs.SourceInstructions.{first_number, insts_of_block, is_out, pointers_of}
 use Rattle.ax_source_run.specs.SourcePointers.{blocks_in, elements_of, elements_of_alloca, elements_of_global, insts_of}
 use Rattle.ax_source_run.specs.SourceState.{Object, Private, Shared, SourceProgram}
@@ -41,7 +42,7 @@ use Rattle.ax_mid.specs.declared.registers.Virtual.{Virtual}
 use Rattle.ax_mid.specs.WellFormed.{is_access_size, registers_of}
 use Rattle.ax_rules.specs.declared.facts.Outcome.{Outcome}
 use Rattle.ax_rules.specs.declared.facts.Outcome.TheVariants as outcome
-use Rattle.ax_rules.specs.declared.facts.Scope.{Scope as FactScope}
+use Rattle.ax_rules.specs.declared.facts.FunctionScope.{FunctionScope}
 use Rattle.ax_rules.specs.Facts as facts
 use Rattle.ax_rules.specs.Facts.{extent_of, extent_of_global, extent_of_outcome, origin_of_alloca, outcome_at, outcome_of}
 use Rattle.ax_rules.specs.Kind as kind
@@ -147,14 +148,14 @@ alloca_size t odd narrow (Some (inst.Alloca u count align)) h = subst (λ (x : T
 alloca_size t odd narrow (Some _) h = refl
 
 -- a getelementptr starts at a global or an alloca
-abbrev starts_at_object : FactScope → Outcome → Bool
+abbrev starts_at_object : FunctionScope → Outcome → Bool
 starts_at_object scope (outcome.Gep b elem t v) = is_object scope b
 starts_at_object scope (outcome.Number t) = true
 starts_at_object scope (outcome.Pair t) = true
 starts_at_object scope (outcome.Alloca e) = true
 starts_at_object scope outcome.Nothing = true
 
-good_start : (scope : FactScope) (x : Inst) → is_bad_gep scope x ≡ false → starts_at_object scope (outcome_of x) ≡ true
+good_start : (scope : FunctionScope) (x : Inst) → is_bad_gep scope x ≡ false → starts_at_object scope (outcome_of x) ≡ true
 unfolding is_bad_gep outcome_of
 good_start scope (inst.Gep elem count b t v) h = is_true (is_object scope b) h
 good_start scope (inst.Call (Some t) name args) h = refl
@@ -170,10 +171,10 @@ module _ (laws : Laws) (program : SourceProgram) (accepted : IsAccepted program)
   abbrev m : Module
   m = program.source
 
-  abbrev scope : Scope
+  abbrev scope : NameCounts
   scope = formed_scope (length m.globals) f
 
-  abbrev its : FactScope
+  abbrev its : FunctionScope
   its = facts.scope_of m f
 
   head : IsSoundHead n f
@@ -283,7 +284,7 @@ module _ (laws : Laws) (program : SourceProgram) (accepted : IsAccepted program)
           record {
             count = subst (λ (o : Option Global). (elements_of_global o).count < 2 ^ 64) (sym e) (omega arith);
             bytes = subst (λ (o : Option Global). type_bytes (elements_of_global o).elem < 2 ^ 64) (sym e) (omega arith);
-            first = const tag.Silent refl 0 (address_in program.layout g 0) (omega arith) (subst (λ (x : Span). x.start + 0 * x.bytes < 2 ^ 64) (sym gone) (omega arith));
+            first = const tag.Silent refl 0 (address_in program.layout g 0) (omega arith) (subst (λ (x : AddressRange). x.start + 0 * x.bytes < 2 ^ 64) (sym gone) (omega arith));
             inside = λ j lt. let none : j < 0 = subst (λ (o : Option Global). j < (elements_of_global o).count) e lt in absurd (omega (arith, none));
           }
       by (Some v) e =

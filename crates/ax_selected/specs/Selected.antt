@@ -13,7 +13,7 @@ use Rattle.ax_module.specs.declared.types.Ty.{Ty}
 use Rattle.ax_module.specs.declared.types.Ty.TheVariants.{I1, I64}
 use Rattle.ax_tags.specs.declared.tags.Tag.TheVariants as tag
 use Rattle.ax_layout.specs.LayoutState.{LayoutState}
-use Rattle.ax_layout.specs.declared.span.Span.{Span}
+use Rattle.ax_layout.specs.declared.address_range.AddressRange.{AddressRange}
 use Rattle.ax_source_run.specs.SourceAccess.{is_native_element}
 use Rattle.ax_source_run.specs.SourceInstructions.{first_number, insts_of_block, is_out, width_of}
 use Rattle.ax_source_run.specs.SourcePointers.{blocks_in}
@@ -184,10 +184,10 @@ module _ (program : SourceProgram) where
   functions_lines f [] = []
   functions_lines f (function ∷ functions) = function_lines f function ++ functions_lines (f + 1) functions
 
-  abbrev pub mid_global : LayoutState → ℕ → Span → MidGlobal
+  abbrev pub mid_global : LayoutState → ℕ → AddressRange → MidGlobal
   mid_global layout g span = record { address = span.start; bytes = span.bytes; count = span.count; native = is_native_element program g 0 }
 
-  abbrev pub globals_from : ℕ → List Span → List MidGlobal
+  abbrev pub globals_from : ℕ → List AddressRange → List MidGlobal
   globals_from g [] = []
   globals_from g (span ∷ spans) = mid_global program.layout g span ∷ globals_from (g + 1) spans
 

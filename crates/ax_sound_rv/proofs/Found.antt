@@ -1,30 +1,36 @@
 -- Labels that stand in code with code behind them, and where they lead.
-use Rattle.std.proofs.Common.{◌≡◌, ℕ, suc, ◌+◌, ◌≤◌, ◌⊎◌, inl, inr, Bool, true, false, List, [], ◌∷◌, ◌++◌, Some, refl, sym, ap, ◌∙◌, arith}
+use Rattle.std.proofs.Common.{◌≡◌, ℕ, zero, suc, ◌+◌, ◌≤◌, ◌⊎◌, inl, inr, Bool, true, false, List, [], ◌∷◌, Some, None, refl, sym, ap, ◌∙◌, arith, slice_get}
 use Rattle.std.specs.Prelude.{if◌then◌else◌, nat_eq}
 use Rattle.std.proofs.lemmas.Bool.{true≢false}
 use Rattle.std.proofs.lemmas.Bool.Decides.{nat_tests}
+use Rattle.std.proofs.lemmas.Option.{none-some, same_Some}
 use Rattle.ax_tags.specs.declared.tags.Tag.{Tag}
 use Rattle.ax_mid.specs.declared.code.Line.{Line}
+use Rattle.ax_mid.specs.declared.instruction.MidInst.{MidInst}
+use Rattle.ax_mid.specs.declared.instruction.MidInst.TheVariants as mid
 use Rattle.ax_mid.specs.Machine.{behind_label, is_label, label_at}
+use Rattle.ax_mid.specs.WellFormed.{is_last}
 use Rattle.ax_emit.specs.Images.{place_of}
-use Rattle.ax_sound_rv.proofs.Sums.{sizes, sizes_both}
+use Rattle.ax_sound_rv.proofs.Sums.{sizes}
 
 itself : (n : ℕ) → nat_eq n n ≡ true
 itself n = grind (arith, nat_tests)
+
+no_end : {R : Type 0} (n : ℕ) (i : MidInst R) → i ≡ mid.Label n → is_last i ≡ true → ⊥
+unfolding is_last
+no_end n i is last = true≢false (sym last ∙ ap is_last is)
+
+-- the last of these lines does not go on
+abbrev pub End : {R : Type 0} → List (Line R) → Type 0
+End {R} lines = (place : ℕ) (line : Line R) → slice_get lines place ≡ Some line → slice_get lines (suc place) ≡ None → is_last line.inst ≡ true
+
+end_behind : {R : Type 0} (x : Line R) (lines : List (Line R)) → End (x ∷ lines) → End lines
+end_behind x lines h = λ place line at none. h (suc place) line at none
 
 module _ {R : Type 0} (key : R → ℕ) (size : Line R → ℕ) where
   abbrev pub Found : List (Line R) → ℕ → Type 0
   Found [] n = ⊥
   Found (line ∷ lines) n = ((label_at key line.inst ≡ Some n) × (1 ≤ sizes size lines)) ⊎ Found lines n
-
-  pub found_left : (xs ys : List (Line R)) (n : ℕ) → Found xs n → Found (xs ++ ys) n
-  found_left [] ys n h = absurd h
-  found_left (x ∷ xs) ys n (inl h) = let some = h.1 in let e = sizes_both size xs ys in inl (h.0, omega (arith, some, e))
-  found_left (x ∷ xs) ys n (inr h) = inr (found_left xs ys n h)
-
-  pub found_right : (xs ys : List (Line R)) (n : ℕ) → Found ys n → Found (xs ++ ys) n
-  found_right [] ys n h = h
-  found_right (x ∷ xs) ys n h = inr (found_right xs ys n h)
 
   found_some : (lines : List (Line R)) (n : ℕ) → Found lines n → 1 ≤ sizes size lines
   found_some [] n h = absurd h
@@ -34,6 +40,21 @@ module _ {R : Type 0} (key : R → ℕ) (size : Line R → ℕ) where
   found_behind : (x : Line R) (lines : List (Line R)) (n : ℕ) → Found (x ∷ lines) n → 1 ≤ sizes size lines
   found_behind x lines n (inl h) = h.1
   found_behind x lines n (inr h) = found_some lines n h
+
+  -- a label that stands in lines whose last one has code
+  module _ (least : (line : Line R) → is_last line.inst ≡ true → 1 ≤ size line) where
+    some_code : (x : Line R) (lines : List (Line R)) → End (x ∷ lines) → 1 ≤ sizes size (x ∷ lines)
+    some_code x [] h = let a = least x (h 0 x refl refl) in omega (arith, a)
+    some_code x (y ∷ lines) h = let a = some_code y lines (end_behind x (y ∷ lines) h) in omega (arith, a)
+
+    found_first : (x : Line R) (lines : List (Line R)) (n : ℕ) → End (x ∷ lines) → x.inst ≡ mid.Label n → Found (x ∷ lines) n
+    found_first x [] n h is = absurd (no_end n x.inst is (h 0 x refl refl))
+    found_first x (y ∷ lines) n h is = inl (ap (label_at key) is, some_code y lines (end_behind x (y ∷ lines) h))
+
+    pub found_at : (lines : List (Line R)) (place n : ℕ) (line : Line R) → End lines → slice_get lines place ≡ Some line → line.inst ≡ mid.Label n → Found lines n
+    found_at [] place n line h at is = absurd (none-some line at)
+    found_at (x ∷ lines) zero n line h at is = found_first x lines n h (ap (λ (l : Line R). l.inst) (same_Some x line at) ∙ is)
+    found_at (x ∷ lines) (suc place) n line h at is = inr (found_at lines place n line (end_behind x lines h) at is)
 
   module _ {I : Type 0} (code : (ℕ → ℕ) → ℕ → Line R → List (I × Tag)) where
     first_place : (lines : List (Line R)) (at : ℕ) → place_of size code lines at 0 ≡ at

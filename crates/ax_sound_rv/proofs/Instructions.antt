@@ -1,15 +1,14 @@
 -- Instructions whose registers and numbers are in their ranges, and which lead to places of the code.
-use Rattle.std.proofs.Common.{◌≡◌, ℕ, suc, ◌+◌, ◌-◌, ◌%◌, ◌^◌, ◌<◌, ◌≤◌, pos, negsuc, Bool, true, false, List, [], ◌∷◌, ◌++◌, length, refl, sym, ap, ◌∙◌, subst, arith}
+use Rattle.std.proofs.Common.{◌≡◌, ℕ, suc, ◌+◌, ◌-◌, ◌%◌, ◌^◌, ◌<◌, ◌≤◌, ℤ, pos, negsuc, Bool, true, false, List, [], ◌∷◌, ◌++◌, length, refl, sym, ap, ◌∙◌, subst, arith, length-append}
 use Rattle.std.specs.Prelude.{if◌then◌else◌, nat_le, nat_lt}
 use Rattle.std.proofs.lemmas.Bool.Decides.{nat_tests}
 use Rattle.ax_tags.specs.declared.tags.Tag.{Tag}
-use Rattle.ax_tags.specs.declared.tags.Tag.TheVariants.{Silent, Act}
 use Rattle.ax_agree.specs.Sound.{IsTag}
 use Rattle.ax_isa.specs.declared.effects.Effect.{Effect}
 use Rattle.ax_isa.specs.declared.effects.Effect.TheVariants as effect
 use Rattle.ax_isa.specs.Processor.{Processor}
 use Rattle.ax_isa.specs.Numbers.{displaced}
-use Rattle.ax_rv.specs.declared.instructions.Condition.TheVariants as condition
+use Rattle.ax_rv.specs.declared.instructions.Condition.{Condition}
 use Rattle.ax_rv.specs.declared.instructions.LoadForm.TheVariants as load
 use Rattle.ax_rv.specs.declared.instructions.RvInstr.{RvInstr}
 use Rattle.ax_rv.specs.declared.instructions.RvInstr.TheVariants.{Branch, Call, Jump, Load}
@@ -47,7 +46,7 @@ pub record IsGood (n place : ℕ) (i : RvInstr) : Type 0 where
   pub valid : IsInstr i
   pub inside : (c : Processor) → c.place ≡ place → Inside n (effect_of i c)
 
-good_of : (n place : ℕ) (i : RvInstr) → GoesOn i → IsGood n place i
+pub good_of : (n place : ℕ) (i : RvInstr) → GoesOn i → IsGood n place i
 good_of n place (Jump d) h = absurd h
 good_of n place (Branch test a b d) h = absurd h
 good_of n place (Call routine q) h = absurd h
@@ -67,29 +66,34 @@ jump_good n place target at few le least most same = record {
   inside = λ c e. subst (Inside n) (sym (jump_goes place target c (e ∙ same) (omega (arith, few, le)) (omega (arith, few, most)))) (least, most);
 }
 
--- a branch over one instruction
-pub turn_good : (n place : ℕ) → n < 2 ^ 31 → place + 2 ≤ n → IsGood n place (Branch condition.NotEqual 5 0 (pos 2))
-turn_good n place few le = record { valid = (omega arith, omega arith, omega arith); inside = λ c e. by (holds condition.NotEqual (read 5 c) (read 0 c)) c e }
+-- a distance from a place that leads to a place of the code
+abbrev pub IsLed : ℕ → ℕ → ℤ → Type 0
+IsLed n place d = (1 ≤ displaced place d) × (displaced place d ≤ n)
+
+pub forward : (n place k : ℕ) → n < 2 ^ 31 → 1 ≤ k → place + k ≤ n → IsLed n place (pos k)
+forward n place k few some le = let q : (place + k) % 2 ^ 64 ≡ place + k = omega (arith, few, le) in (omega (arith, q, some), omega (arith, q, le))
+
+pub backward : (n place k : ℕ) → n < 2 ^ 31 → k + 2 ≤ place → place ≤ n → IsLed n place (negsuc k)
+backward n place k few some le = let q : (place + (2 ^ 64 - 1 - k)) % 2 ^ 64 ≡ place - 1 - k = omega (arith, few, some, le) in (omega (arith, q, some), omega (arith, q, le))
+
+pub leap_good : (n place : ℕ) (d : ℤ) → IsDistance d → IsLed n place d → IsGood n place (Jump d)
+leap_good n place d valid led = record { valid = valid; inside = λ c e. subst (λ (q : ℕ). IsLed n q d) (sym e) led }
+
+pub turn_good : (n place : ℕ) (test : Condition) (left right : ℕ) (d : ℤ) → IsInstr (Branch test left right d) → IsLed n place d → IsGood n place (Branch test left right d)
+turn_good n place test left right d valid led = record { valid = valid; inside = λ c e. by (holds test (read left c) (read right c)) c e }
   where
-    by : (t : Bool) (c : Processor) → c.place ≡ place → Inside n (if t then effect.Jump (displaced c.place (pos 2)) else effect.Nop)
-    by true c e = let q : (c.place + 2) % 2 ^ 64 ≡ place + 2 = omega (arith, e, few, le) in (omega (arith, q), omega (arith, q, le))
+    by : (t : Bool) (c : Processor) → c.place ≡ place → Inside n (if t then effect.Jump (displaced c.place d) else effect.Nop)
+    by true c e = subst (λ (q : ℕ). IsLed n q d) (sym e) led
     by false c e = tt
 
 -- ---- code with its marks
-abbrev pub IsPlainTag : Tag → Type 0
-IsPlainTag Silent = Unit {0}
-IsPlainTag Act = Unit {0}
-IsPlainTag _ = ⊥
-
-pub hushed_tag : (quiet : Bool) (t : Tag) → IsPlainTag t → IsTag (hush quiet t)
+pub hushed_tag : (quiet : Bool) (t : Tag) → IsTag t → IsTag (hush quiet t)
 hushed_tag true t h = tt
-hushed_tag false Silent h = tt
-hushed_tag false Act h = tt
-hushed_tag false _ h = absurd h
+hushed_tag false t h = h
 
 abbrev pub AreStraight : List (RvInstr × Tag) → Type 0
 AreStraight [] = Unit {0}
-AreStraight (i ∷ is) = GoesOn i.0 × IsPlainTag i.1 × AreStraight is
+AreStraight (i ∷ is) = GoesOn i.0 × IsTag i.1 × AreStraight is
 
 pub straight_both : (is js : List (RvInstr × Tag)) → AreStraight is → AreStraight js → AreStraight (is ++ js)
 straight_both [] js h g = g
@@ -102,11 +106,17 @@ straight_silently (i ∷ is) h = (h.0, tt, straight_silently is h.1)
 -- from a place on
 abbrev pub AreGood : ℕ → ℕ → List (RvInstr × Tag) → Type 0
 AreGood n place [] = Unit {0}
-AreGood n place (i ∷ is) = IsGood n place i.0 × IsPlainTag i.1 × AreGood n (place + 1) is
+AreGood n place (i ∷ is) = IsGood n place i.0 × IsTag i.1 × AreGood n (place + 1) is
 
 pub straight_good : (n place : ℕ) (is : List (RvInstr × Tag)) → AreStraight is → AreGood n place is
 straight_good n place [] h = tt
 straight_good n place (i ∷ is) h = (good_of n place i.0 h.0, h.1, straight_good n (place + 1) is h.2)
+
+pub good_both : (n place : ℕ) (is js : List (RvInstr × Tag)) → AreGood n place is → AreGood n (place + length is) js → AreGood n place (is ++ js)
+good_both n place [] js h g = let same : place + 0 ≡ place = omega arith in subst (λ (p : ℕ). AreGood n p js) same g
+good_both n place (i ∷ is) js h g =
+    let same : place + suc (length is) ≡ place + 1 + length is = omega arith in
+    (h.0, h.1, good_both n (place + 1) is js h.2 (subst (λ (p : ℕ). AreGood n p js) same g))
 
 pub good_behind : (n place : ℕ) (is : List RvInstr) (rest : List (RvInstr × Tag)) → AllGo is → AreGood n (place + length is) rest → AreGood n place (silently is ++ rest)
 good_behind n place [] rest h g = let same : place + 0 ≡ place = omega arith in subst (λ (p : ℕ). AreGood n p rest) same g
@@ -159,3 +169,12 @@ homes_are key t (r ∷ rs) le = (omega (arith, le), homes_are key (t + 1) rs (om
 pub homes_length : {R : Type 0} (key : R → ℕ) (t : ℕ) (rs : List R) → length (homes_from key t rs) ≡ length rs
 homes_length key t [] = refl
 homes_length key t (r ∷ rs) = ap suc (homes_length key (t + 1) rs)
+
+-- each of them has an instruction
+pub puts_some : (zs : List (ℕ × ℕ)) → length zs ≤ length (puts_all rv_table zs)
+puts_some [] = omega arith
+puts_some (z ∷ zs) =
+    let a = length-append (put rv_table z.1 z.0) (puts_all rv_table zs) in
+    let b = length-append (put_first_by (nat_lt z.1 near_slots) z.1 z.0) (rv_table.put_last z.1 z.0 ∷ []) in
+    let c = puts_some zs in
+    omega (arith, a, b, c)

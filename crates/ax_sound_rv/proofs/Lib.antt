@@ -2,13 +2,10 @@ pub mod Sums
 pub mod Ranges
 pub mod Instructions
 pub mod Rounds
+pub mod Loops
 pub mod Sizes
 pub mod Lines
 pub mod Drafts
 pub mod Found
-pub mod Plain
-pub mod Pieces
-pub mod Functions
-pub mod Known
 pub mod Fitting
 pub mod Whole

@@ -1,5 +1,5 @@
--- The code of operations without a loop is short, and its instructions go on with numbers in their ranges.
-use Rattle.std.proofs.Common.{ℕ, ◌+◌, ◌<◌, ◌≤◌, Bool, List, [], ◌∷◌, ◌++◌, length, arith, length-append}
+-- The code of operations by one access is short, and its instructions go on with numbers in their ranges.
+use Rattle.std.proofs.Common.{◌≡◌, ℕ, ◌+◌, ◌<◌, ◌≤◌, Bool, List, [], ◌∷◌, ◌++◌, length, sym, subst, arith, length-append}
 use Rattle.ax_words.specs.declared.mark.Op.{Op}
 use Rattle.ax_words.specs.declared.mark.Op.TheVariants as op
 use Rattle.ax_words.specs.declared.operation.RmwOp.{RmwOp}
@@ -17,8 +17,9 @@ use Rattle.ax_expand.specs.Shared.{Shared}
 use Rattle.ax_expand.specs.Standing.{silently}
 use Rattle.ax_expand.proofs.Straight.{silent_length}
 use Rattle.ax_fine.specs.OnBytes.{atomic_doing}
-use Rattle.ax_llsc.specs.Codes.{atomic_rounding, before_load, before_store, behind_load, clear, fence_instr, fences, operand_of, prepare}
-use Rattle.ax_inline_rv.specs.Inline.{inline_expansions}
+use Rattle.ax_llsc.specs.Codes.{Atomic, atomic_rounding, before_load, before_store, behind_load, fence_instr, fences, operand_of, prepare, rounded, rounding}
+use Rattle.ax_llsc.specs.Loops.{clear}
+use Rattle.ax_direct_rv.specs.Direct.{direct_expansions}
 use Rattle.ax_sound_rv.proofs.Instructions.{AllGo, AreStraight, GoesOn, go_both, straight_both, straight_silently}
 
 -- ---- its parts
@@ -58,7 +59,7 @@ fence_goes Release = tt
 fence_goes AcqRel = tt
 fence_goes SeqCst = tt
 
-clear_goes : (width : Width) → AllGo (clear 15 width)
+pub clear_goes : (width : Width) → AllGo (clear 15 width)
 clear_goes W32 = ((omega arith, omega arith, omega arith), ((omega arith, omega arith, omega arith), tt))
 clear_goes _ = tt
 
@@ -116,12 +117,13 @@ round_few before access after h =
     let few = h.few in
     omega (arith, a, b, c, few)
 
-module _ (target : Target) (o : Op) (width : Width) (order : Order) (weak : Bool) where
-  pub inline_straight : (start : ℕ) → AreStraight ((inline_expansions target o width order weak).piece start)
-  inline_straight start = let z = atomic_rounding (atomic_doing target o width order weak) o width order in round_straight z.before z.access z.after (round_is (atomic_doing target o width order weak) o width order)
+-- ---- one access, in an operation's code
+abbrev pub IsOne : Target → Op → Width → Order → Bool → Type 0
+IsOne target o width order weak = direct_expansions target o width order weak ≡ rounded (rounding target (Atomic o width order weak))
 
-  pub inline_few : (start : ℕ) → length ((inline_expansions target o width order weak).piece start) ≤ 5
-  inline_few start = let z = atomic_rounding (atomic_doing target o width order weak) o width order in round_few z.before z.access z.after (round_is (atomic_doing target o width order weak) o width order)
+module _ (target : Target) (o : Op) (width : Width) (order : Order) (weak : Bool) (one : IsOne target o width order weak) (start : ℕ) where
+  pub one_straight : AreStraight ((direct_expansions target o width order weak).piece start)
+  one_straight = let z = atomic_rounding (atomic_doing target o width order weak) o width order in subst (λ e. AreStraight (e.piece start)) (sym one) (round_straight z.before z.access z.after (round_is (atomic_doing target o width order weak) o width order))
 
-  pub inline_some : (start : ℕ) → 1 ≤ length ((inline_expansions target o width order weak).piece start)
-  inline_some start = let z = atomic_rounding (atomic_doing target o width order weak) o width order in let a = length-append (silently z.before) ((z.access, Act) ∷ silently z.after) in omega (arith, a)
+  pub one_few : length ((direct_expansions target o width order weak).piece start) ≤ 5
+  one_few = let z = atomic_rounding (atomic_doing target o width order weak) o width order in subst (λ e. length (e.piece start) ≤ 5) (sym one) (round_few z.before z.access z.after (round_is (atomic_doing target o width order weak) o width order))

@@ -1,6 +1,7 @@
--- How long the code of a line is: at most 30 instructions, and at least one where it has code.
-use Rattle.std.proofs.Common.{◌≡◌, ℕ, ◌+◌, ◌-◌, ◌*◌, ◌≤◌, pos, Bool, true, false, List, [], ◌∷◌, ◌++◌, length, refl, sym, ◌∙◌, arith, length-append}
+-- How long the code of a line is: at most 31 instructions, and at least one where a function can end with it.
+use Rattle.std.proofs.Common.{◌≡◌, ℕ, ◌+◌, ◌-◌, ◌*◌, ◌≤◌, pos, Bool, true, false, List, [], ◌∷◌, ◌++◌, length, arith, length-append}
 use Rattle.std.specs.Prelude.{if◌then◌else◌, nat_eq, nat_lt}
+use Rattle.std.proofs.lemmas.Bool.{false≢true}
 use Rattle.ax_words.specs.declared.mark.Op.{Op}
 use Rattle.ax_words.specs.declared.order.Order.{Order}
 use Rattle.ax_words.specs.declared.width.Width.{Width}
@@ -15,6 +16,7 @@ use Rattle.ax_mid.specs.declared.instruction.MidInst.{MidInst}
 use Rattle.ax_mid.specs.declared.instruction.MidInst.TheVariants as mid
 use Rattle.ax_mid.specs.declared.instruction.MidOp.{MidOp}
 use Rattle.ax_mid.specs.declared.instruction.MidOp.TheVariants as op
+use Rattle.ax_mid.specs.WellFormed.{is_last}
 use Rattle.ax_expand.specs.Standing.{silently}
 use Rattle.ax_expand.proofs.Straight.{silent_length}
 use Rattle.ax_emit.specs.Atomics.{gets_all, puts_all}
@@ -22,9 +24,10 @@ use Rattle.ax_emit_rv.specs.Code.{cleared, computed, extend_code, first_argument
 use Rattle.ax_emit_rv.specs.Slots.{down, near_slots, put_first, put_first_by, put_last, rv_table}
 use Rattle.ax_emit_rv.proofs.Atomics.{puts_short}
 use Rattle.ax_emit_rv.proofs.Computing.{gets_short}
-use Rattle.ax_inline_rv.specs.Inline.{inline_expansions}
+use Rattle.ax_direct_rv.specs.Direct.{direct_expansions}
+use Rattle.ax_direct_rv.proofs.Words.{AreWords, HasWords}
 use Rattle.ax_sound_rv.proofs.Instructions.{homes_length}
-use Rattle.ax_sound_rv.proofs.Rounds.{inline_few, inline_some}
+use Rattle.ax_sound_rv.proofs.Loops.{direct_most}
 
 -- ---- parts
 first_by : (near : Bool) (r t : ℕ) → length (put_first_by near r t) ≤ 2
@@ -55,12 +58,7 @@ cleared_two n = by (nat_eq n 4)
     by true = omega arith
     by false = omega arith
 
--- so many instructions at least and at most
-record IsBetween (least most n : ℕ) : Type 0 where
-  low : least ≤ n
-  high : n ≤ most
-
-computed_size : {R : Type 0} (key : R → ℕ) (to : R) (zs : List (ℕ × ℕ)) (is : List RvInstr) → IsBetween 1 (3 * length zs + length is + 3) (length (computed key to (gets_all rv_table zs ++ is)))
+computed_size : {R : Type 0} (key : R → ℕ) (to : R) (zs : List (ℕ × ℕ)) (is : List RvInstr) → length (computed key to (gets_all rv_table zs ++ is)) ≤ 3 * length zs + length is + 3
 computed_size key to zs is =
     let code = gets_all rv_table zs ++ is in
     let a = length-append (silently (code ++ put_first (key to) 7)) ((put_last (key to) 7, Act) ∷ []) in
@@ -69,7 +67,7 @@ computed_size key to zs is =
     let d = length-append (gets_all rv_table zs) is in
     let e = gets_short zs in
     let f = first_two (key to) 7 in
-    record { low = omega (arith, a); high = omega (arith, a, b, c, d, e, f) }
+    omega (arith, a, b, c, d, e, f)
 
 wrapped_size : (before : List RvInstr) (middle : List (RvInstr × Tag)) (after : List RvInstr) → length (silently before ++ (middle ++ silently after)) ≡ length before + length middle + length after
 wrapped_size before middle after =
@@ -79,52 +77,43 @@ wrapped_size before middle after =
     let d = silent_length after in
     omega (arith, a, b, c, d)
 
-ended_size : (zs : List (ℕ × ℕ)) (i : RvInstr × Tag) → IsBetween 1 (3 * length zs + 1) (length (silently (gets_all rv_table zs) ++ i ∷ []))
+ended_size : (zs : List (ℕ × ℕ)) (i : RvInstr × Tag) → length (silently (gets_all rv_table zs) ++ i ∷ []) ≤ 3 * length zs + 1
 ended_size zs i =
     let a = length-append (silently (gets_all rv_table zs)) (i ∷ []) in
     let b = silent_length (gets_all rv_table zs) in
     let c = gets_short zs in
-    record { low = omega (arith, a); high = omega (arith, a, b, c) }
+    omega (arith, a, b, c)
 
 -- ---- lines
--- an operation's line has few registers
-abbrev pub IsBrief : {R : Type 0} → MidInst R → Type 0
-IsBrief (mid.Atomic o width order weak address args results) = (length args ≤ 4) × (length results ≤ 3)
-IsBrief _ = Unit {0}
-
--- a line with code
-abbrev pub HasCode : {R : Type 0} → MidInst R → Type 0
-HasCode (mid.Label n) = ⊥
-HasCode (mid.Call routine role args results) = ⊥
-HasCode _ = Unit {0}
-
 module _ {R : Type 0} (key : R → ℕ) (depth : ℕ) (behind : ℕ → ℕ) (target : Target) where
-  abbrev pub inline_piece : MidInst R → (ℕ → ℕ) → ℕ → List (RvInstr × Tag)
-  inline_piece i places start = piece_of key depth behind (inline_expansions target) i places start
+  abbrev pub direct_piece : MidInst R → (ℕ → ℕ) → ℕ → List (RvInstr × Tag)
+  direct_piece i places start = piece_of key depth behind (direct_expansions target) i places start
 
-  atomic_size : (o : Op) (width : Width) (order : Order) (weak : Bool) (address : R) (args results : List R) (places : ℕ → ℕ) (start : ℕ) → length args ≤ 4 → length results ≤ 3 → length (inline_piece (mid.Atomic o width order weak address args results) places start) ≤ 30
+  atomic_size : (o : Op) (width : Width) (order : Order) (weak : Bool) (address : R) (args results : List R) (places : ℕ → ℕ) (start : ℕ) → AreWords o width args results → length (direct_piece (mid.Atomic o width order weak address args results) places start) ≤ 31
   unfolding piece_of
-  atomic_size o width order weak address args results places start few few_results =
+  atomic_size o width order weak address args results places start words =
       let before : List (ℕ × ℕ) = (10, key address) ∷ homes_from key first_argument args in
       let after = homes_from key first_result results in
-      let middle = (inline_expansions target o width order weak).piece (start + length (gets_all rv_table before)) in
+      let middle = (direct_expansions target o width order weak).piece (start + length (gets_all rv_table before)) in
       let a = wrapped_size (gets_all rv_table before) middle (puts_all rv_table after) in
       let b = gets_short before in
       let c = puts_short after in
-      let d = inline_few target o width order weak (start + length (gets_all rv_table before)) in
+      let d = direct_most target width order weak o (start + length (gets_all rv_table before)) in
       let e = homes_length key first_argument args in
       let f = homes_length key first_result results in
-      omega (arith, a, b, c, d, e, f, few, few_results)
+      let taken = words.0 in
+      let given = words.1 in
+      omega (arith, a, b, c, d, e, f, taken, given)
 
-  pub size_most : (i : MidInst R) (places : ℕ → ℕ) (start : ℕ) → IsBrief i → length (inline_piece i places start) ≤ 30
+  pub size_most : (i : MidInst R) (places : ℕ → ℕ) (start : ℕ) → HasWords i → length (direct_piece i places start) ≤ 31
   unfolding piece_of
-  size_most (mid.Const to n) places start h = let a = (computed_size key to [] (Li 7 n ∷ [])).high in omega (arith, a)
-  size_most (mid.Copy to from) places start h = let a = (computed_size key to ((7, key from) ∷ []) []).high in omega (arith, a)
-  size_most (mid.Apply o to left right) places start h = let a = (computed_size key to ((5, key left) ∷ (6, key right) ∷ []) (op_code o)).high in let b = op_two o in omega (arith, a, b)
-  size_most (mid.Shift o to from by) places start h = let a = (computed_size key to ((7, key from) ∷ []) (Shift (shift_of o) 7 7 by ∷ [])).high in omega (arith, a)
-  size_most (mid.Extend to from bits signed) places start h = let a = (computed_size key to ((7, key from) ∷ []) (extend_code bits signed)).high in omega (arith, a)
-  size_most (mid.Select to test x y) places start h = let a = (computed_size key to ((5, key test) ∷ (6, key x) ∷ (7, key y) ∷ []) select_code).high in omega (arith, a)
-  size_most (mid.FrameAddress to offset) places start h = let a = (computed_size key to [] (Li 7 (down (depth - offset)) ∷ Binary binary.Add 7 2 7 ∷ [])).high in omega (arith, a)
+  size_most (mid.Const to n) places start h = let a = computed_size key to [] (Li 7 n ∷ []) in omega (arith, a)
+  size_most (mid.Copy to from) places start h = let a = computed_size key to ((7, key from) ∷ []) [] in omega (arith, a)
+  size_most (mid.Apply o to left right) places start h = let a = computed_size key to ((5, key left) ∷ (6, key right) ∷ []) (op_code o) in let b = op_two o in omega (arith, a, b)
+  size_most (mid.Shift o to from by) places start h = let a = computed_size key to ((7, key from) ∷ []) (Shift (shift_of o) 7 7 by ∷ []) in omega (arith, a)
+  size_most (mid.Extend to from bits signed) places start h = let a = computed_size key to ((7, key from) ∷ []) (extend_code bits signed) in omega (arith, a)
+  size_most (mid.Select to test x y) places start h = let a = computed_size key to ((5, key test) ∷ (6, key x) ∷ (7, key y) ∷ []) select_code in omega (arith, a)
+  size_most (mid.FrameAddress to offset) places start h = let a = computed_size key to [] (Li 7 (down (depth - offset)) ∷ Binary binary.Add 7 2 7 ∷ []) in omega (arith, a)
   size_most (mid.Load to address n) places start h =
       let a = wrapped_size (get_one key 5 address) ((load_in n, Act) ∷ silently (cleared n)) (puts_all rv_table ((7, key to) ∷ [])) in
       let b = gets_short ((5, key address) ∷ []) in
@@ -145,52 +134,22 @@ module _ {R : Type 0} (key : R → ℕ) (depth : ℕ) (behind : ℕ → ℕ) (ta
       let d = silent_length is in
       let e = gets_short ((5, key test) ∷ []) in
       omega (arith, c, d, e)
-  size_most (mid.Atomic o width order weak address args results) places start h = atomic_size o width order weak address args results places start h.0 h.1
-  size_most (mid.Out from) places start h = let a = (ended_size ((10, key from) ∷ []) (Ecall, Act)).high in omega (arith, a)
+  size_most (mid.Atomic o width order weak address args results) places start h = atomic_size o width order weak address args results places start h
+  size_most (mid.Out from) places start h = let a = ended_size ((10, key from) ∷ []) (Ecall, Act) in omega (arith, a)
   size_most mid.Trap places start h = omega arith
   size_most mid.Ret places start h = omega arith
   size_most mid.Nop places start h = omega arith
   size_most (mid.Call routine role args results) places start h = omega arith
 
-  pub size_least : (i : MidInst R) (places : ℕ → ℕ) (start : ℕ) → HasCode i → 1 ≤ length (inline_piece i places start)
-  unfolding piece_of
-  size_least (mid.Const to n) places start h = (computed_size key to [] (Li 7 n ∷ [])).low
-  size_least (mid.Copy to from) places start h = (computed_size key to ((7, key from) ∷ []) []).low
-  size_least (mid.Apply o to left right) places start h = (computed_size key to ((5, key left) ∷ (6, key right) ∷ []) (op_code o)).low
-  size_least (mid.Shift o to from by) places start h = (computed_size key to ((7, key from) ∷ []) (Shift (shift_of o) 7 7 by ∷ [])).low
-  size_least (mid.Extend to from bits signed) places start h = (computed_size key to ((7, key from) ∷ []) (extend_code bits signed)).low
-  size_least (mid.Select to test x y) places start h = (computed_size key to ((5, key test) ∷ (6, key x) ∷ (7, key y) ∷ []) select_code).low
-  size_least (mid.FrameAddress to offset) places start h = (computed_size key to [] (Li 7 (down (depth - offset)) ∷ Binary binary.Add 7 2 7 ∷ [])).low
-  size_least (mid.Load to address n) places start h =
-      let a = wrapped_size (get_one key 5 address) ((load_in n, Act) ∷ silently (cleared n)) (puts_all rv_table ((7, key to) ∷ [])) in
-      omega (arith, a)
-  size_least (mid.Store address from n) places start h = let a = wrapped_size (get_two key address from) ((store_in n, Act) ∷ []) [] in omega (arith, a)
-  size_least (mid.Label n) places start h = absurd h
+  -- what a function can end with has code
+  pub size_least : (i : MidInst R) (places : ℕ → ℕ) (start : ℕ) → is_last i ≡ true → 1 ≤ length (direct_piece i places start)
+  unfolding piece_of is_last
   size_least (mid.Jump n) places start h = omega arith
   size_least (mid.Branch test a b) places start h =
       let is = get_one key 5 test in
       let turns : List (RvInstr × Tag) = (Branch condition.NotEqual 5 0 (pos 2), Silent) ∷ (jump_to (start + length is + 1) (places (behind b)), Act) ∷ (jump_to (start + length is + 2) (places (behind a)), Act) ∷ [] in
       let c = length-append (silently is) turns in
       omega (arith, c)
-  size_least (mid.Atomic o width order weak address args results) places start h =
-      let before : List (ℕ × ℕ) = (10, key address) ∷ homes_from key first_argument args in
-      let a = wrapped_size (gets_all rv_table before) ((inline_expansions target o width order weak).piece (start + length (gets_all rv_table before))) (puts_all rv_table (homes_from key first_result results)) in
-      let c = inline_some target o width order weak (start + length (gets_all rv_table before)) in
-      omega (arith, a, c)
-  size_least (mid.Out from) places start h = (ended_size ((10, key from) ∷ []) (Ecall, Act)).low
   size_least mid.Trap places start h = omega arith
   size_least mid.Ret places start h = omega arith
-  size_least mid.Nop places start h = omega arith
-  size_least (mid.Call routine role args results) places start h = absurd h
-
-  -- it is as long wherever it stands
-  pub size_same : (i : MidInst R) (places : ℕ → ℕ) (start : ℕ) → length (inline_piece i places start) ≡ length (inline_piece i (λ j. 0) 0)
-  unfolding piece_of
-  size_same (mid.Branch test a b) places start =
-      let is = get_one key 5 test in
-      let here : List (RvInstr × Tag) = (Branch condition.NotEqual 5 0 (pos 2), Silent) ∷ (jump_to (start + length is + 1) (places (behind b)), Act) ∷ (jump_to (start + length is + 2) (places (behind a)), Act) ∷ [] in
-      let there : List (RvInstr × Tag) = (Branch condition.NotEqual 5 0 (pos 2), Silent) ∷ (jump_to (0 + length is + 1) 0, Act) ∷ (jump_to (0 + length is + 2) 0, Act) ∷ [] in
-      let c = length-append (silently is) here in
-      let d = length-append (silently is) there in
-      c ∙ sym d
-  size_same _ places start = refl
+  size_least _ places start h = absurd (false≢true h)

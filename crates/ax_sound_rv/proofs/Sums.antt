@@ -1,5 +1,5 @@
 -- Lines of which each has a property, and their sizes, one after the other.
-use Rattle.std.proofs.Common.{◌≡◌, ℕ, suc, ◌+◌, ◌*◌, ◌≤◌, List, [], ◌∷◌, ◌++◌, Some, length, refl, arith, slice_get}
+use Rattle.std.proofs.Common.{◌≡◌, ℕ, suc, ◌+◌, ◌*◌, ◌≤◌, List, [], ◌∷◌, Some, length, refl, arith, slice_get}
 use Rattle.ax_mid.specs.declared.code.Line.{Line}
 use Rattle.ax_emit.specs.Passes.{place_end}
 
@@ -12,33 +12,17 @@ pub all_lines : {R : Type 0} (P : Line R → Type 0) (lines : List (Line R)) →
 all_lines P [] h = tt
 all_lines P (line ∷ lines) h = (h 0 line refl, all_lines P lines (λ place l e. h (suc place) l e))
 
-pub all_both : {R : Type 0} (P : Line R → Type 0) (xs ys : List (Line R)) → AllLines P xs → AllLines P ys → AllLines P (xs ++ ys)
-all_both P [] ys h g = g
-all_both P (x ∷ xs) ys h g = (h.0, all_both P xs ys h.1 g)
-
-pub all_weaker : {R : Type 0} (P Q : Line R → Type 0) (lines : List (Line R)) → ((line : Line R) → P line → Q line) → AllLines P lines → AllLines Q lines
-all_weaker P Q [] weak h = tt
-all_weaker P Q (line ∷ lines) weak h = (weak line h.0, all_weaker P Q lines weak h.1)
-
-pub all_two : {R : Type 0} (P Q S : Line R → Type 0) (lines : List (Line R)) → ((line : Line R) → P line → Q line → S line) → AllLines P lines → AllLines Q lines → AllLines S lines
-all_two P Q S [] both h g = tt
-all_two P Q S (line ∷ lines) both h g = (both line h.0 g.0, all_two P Q S lines both h.1 g.1)
-
 -- ---- sizes
 module _ {R : Type 0} (size : Line R → ℕ) where
   abbrev pub sizes : List (Line R) → ℕ
   sizes [] = 0
   sizes (line ∷ lines) = size line + sizes lines
 
-  pub sizes_both : (xs ys : List (Line R)) → sizes (xs ++ ys) ≡ sizes xs + sizes ys
-  sizes_both [] ys = omega arith
-  sizes_both (x ∷ xs) ys = let e = sizes_both xs ys in omega (arith, e)
-
   pub end_is : (at : ℕ) (lines : List (Line R)) → place_end size at lines ≡ at + sizes lines
   end_is at [] = omega arith
   end_is at (line ∷ lines) = let e = end_is (at + size line) lines in omega (arith, e)
 
-  -- lines of at most 30 instructions each
-  pub sizes_most : (lines : List (Line R)) → AllLines (λ line. size line ≤ 30) lines → sizes lines ≤ 30 * length lines
+  -- lines of at most 31 instructions each
+  pub sizes_most : (lines : List (Line R)) → AllLines (λ line. size line ≤ 31) lines → sizes lines ≤ 31 * length lines
   sizes_most [] h = omega arith
   sizes_most (line ∷ lines) h = let a = h.0 in let b = sizes_most lines h.1 in omega (arith, a, b)

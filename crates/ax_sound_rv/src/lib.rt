@@ -1,6 +1,7 @@
-//! Images of modules for RV64 whose atomic instructions need no loop are short and sound.
+//! Images of modules for RV64 whose atomic instructions are single instructions or pair loops are
+//! short and sound.
 #![tactic(auto)]
 
 pub mod laws;
 
-pub use laws::{inline_images_are_short, inline_images_are_sound};
+pub use laws::{direct_images_are_short, direct_images_are_sound};

@@ -6,7 +6,8 @@ use Rattle.std.proofs.lemmas.Bool.{false≢true}
 use Rattle.std.proofs.lemmas.Bool.Decides.{nat_tests}
 use Rattle.ax_store.specs.declared.entry.Entry.{Entry}
 use Rattle.ax_store.specs.Buffers.{byte_from, latest}
-use Rattle.ax_store.specs.Bytes.{byte_of, covers}
+use Rattle.ax_map.specs.Map.{covers}
+use Rattle.ax_store.specs.Bytes.{byte_of}
 use Rattle.ax_store.specs.Storage.{byte_after, newest}
 
 or_some : {A : Type 0} (x y : Option A) → IsSome x → option_or x y ≡ x

@@ -5,7 +5,8 @@ use Rattle.std.proofs.Math.Nat.{mod-mod}
 use Rattle.std.proofs.lemmas.Bool.{false≢true}
 use Rattle.std.proofs.lemmas.Bool.Decides.{nat_tests}
 use Rattle.ax_store.specs.declared.entry.Entry.{Entry}
-use Rattle.ax_store.specs.Bytes.{all_inside, byte_of, covers, cut, number_at, put, written}
+use Rattle.ax_map.specs.Map.{covers}
+use Rattle.ax_store.specs.Bytes.{all_inside, byte_of, cut, number_at, put, written}
 use Rattle.ax_store.specs.Storage.{Storage, at_place, byte_after, drain_one, drained, entry_of, flushed, load, newest, seen, stored, with_waiting, wrote, wrote_all}
 use Rattle.ax_store.proofs.Steps.{place_same}
 use Rattle.ax_store.proofs.Numbers.{number_written}

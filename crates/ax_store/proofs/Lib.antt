@@ -5,4 +5,6 @@ pub mod Places
 pub mod Reading
 pub mod Regions
 pub mod ReservationLemmas
+pub mod Spans
 pub mod Steps
+pub mod Writing

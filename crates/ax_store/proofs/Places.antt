@@ -6,7 +6,8 @@ use Rattle.std.proofs.lemmas.Bool.Decides.{nat_tests}
 use Rattle.std.proofs.lemmas.List.{get_or-replicate, length-replicate}
 use Rattle.std.proofs.lemmas.Grind.{common_steps}
 use Rattle.std.proofs.Math.Nat.{pow-le-pow_right, div-eq_of_lt}
-use Rattle.ax_store.specs.Bytes.{byte_of, covers, put, set_inside, all_inside}
+use Rattle.ax_map.specs.Map.{covers}
+use Rattle.ax_store.specs.Bytes.{byte_of, put, set_inside, all_inside}
 use Rattle.ax_store.specs.Places.{part_of, place_in, bytes_in, byte_at, is_inside, bytes_set, regions_of, is_mapped, zeros}
 
 -- an address by its part and its place in it

@@ -6,7 +6,7 @@ use Rattle.std.proofs.lemmas.Bool.Decides.{nat_tests}
 use Rattle.ax_store.specs.Bytes.{all_inside}
 use Rattle.ax_store.specs.Places.{is_mapped, part_of, place_in}
 use Rattle.ax_store.proofs.Calls.{inside_all}
-use Rattle.ax_store.specs.Regions.{in_lock_table, in_globals, frame_end, in_frame, in_frames, in_regions, IsFrameSize, IsGlobalsEnd}
+use Rattle.ax_map.specs.Map.{IsFrameSize, IsGlobalsEnd, frame_end, in_frame, in_frames, in_globals, in_lock_table, in_regions}
 
 -- no byte of the lock table is one of a global
 pub table_not_globals : (end a : ℕ) → in_lock_table a ≡ true → in_globals end a ≡ false

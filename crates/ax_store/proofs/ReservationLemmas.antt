@@ -5,7 +5,8 @@ use Rattle.std.proofs.lemmas.Bool.{false≢true}
 use Rattle.std.proofs.lemmas.Bool.Decides.{nat_tests}
 use Rattle.ax_store.specs.declared.entry.Entry.{Entry}
 use Rattle.ax_store.specs.declared.entry.Reservation.{Reservation}
-use Rattle.ax_store.specs.Bytes.{byte_of, covers}
+use Rattle.ax_map.specs.Map.{covers}
+use Rattle.ax_store.specs.Bytes.{byte_of}
 use Rattle.ax_store.specs.Reservations.{left_of, reaches, stands_for}
 use Rattle.ax_store.specs.Storage.{Storage, dropped, entry_of, linked_at, may_pair, pair_stored, with_linked, wrote}
 use Rattle.ax_store.proofs.Steps.{place_same}

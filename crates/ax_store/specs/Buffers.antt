@@ -3,7 +3,8 @@ pub use Rattle.ax_store.specs.BufferState.{BufferState}
 use Rattle.std.specs.Prelude.{ℕ, ◌-◌, List, [], ◌∷◌, ◌++◌, Option, Some, None, if◌then◌else◌, nat_lt, slice_index_or, drop}
 use Rattle.std.specs.Option.{option_or}
 use Rattle.ax_store.specs.declared.entry.Entry.{Entry}
-use Rattle.ax_store.specs.Bytes.{covers, byte_of}
+use Rattle.ax_map.specs.Map.{covers}
+use Rattle.ax_store.specs.Bytes.{byte_of}
 
 abbrev pub with_room : ℕ → BufferState → BufferState
 with_room n b = record b { room = if nat_lt b.room n then n else b.room }

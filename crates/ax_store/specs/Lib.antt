@@ -3,8 +3,8 @@ pub mod Buffers
 pub mod Bytes
 pub mod Links
 pub mod Places
-pub mod Regions
 pub mod Reservations
+pub mod Spans
 pub mod Storage
 pub mod Store
 pub mod StoreState

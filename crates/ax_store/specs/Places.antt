@@ -1,13 +1,17 @@
 -- Which byte of which list stands for an address.
 use Rattle.std.specs.Prelude.{ℕ, ◌+◌, ◌-◌, ◌/◌, ◌%◌, Bool, nat_lt, if◌then◌else◌, List, [], ◌∷◌, length, slice_index_or, slice_set, replicate, map}
+use Rattle.ax_map.specs.Map.{frame_room, frames_start, globals_start, lock_table_start}
 
--- the lock table ends below 2 ^ 16 and the globals below 2 ^ 24; a frame has 2 ^ 17 addresses
+-- the lock table lies below the globals, these below the frames
 abbrev pub part_of : ℕ → ℕ
-part_of a = if nat_lt a 65536 then 0 else (if nat_lt a 16777216 then 1 else (a - 16777216) / 131072 + 2)
+part_of a = if nat_lt a globals_start then 0 else (if nat_lt a frames_start then 1 else (a - frames_start) / frame_room + 2)
 
 -- a frame lies at the end of its addresses: its bytes are counted from there down
 abbrev pub place_in : ℕ → ℕ
-place_in a = if nat_lt a 32768 then a + 32768 else (if nat_lt a 65536 then a - 32768 else (if nat_lt a 16777216 then a - 65536 else 131071 - (a - 16777216) % 131072))
+place_in a =
+    if nat_lt a lock_table_start then a + lock_table_start
+    else if nat_lt a globals_start then a - lock_table_start
+    else if nat_lt a frames_start then a - globals_start else frame_room - 1 - (a - frames_start) % frame_room
 
 abbrev pub bytes_in : List (List ℕ) → ℕ → List ℕ
 bytes_in rs a = slice_index_or rs (part_of a) []

@@ -4,8 +4,8 @@
 use Rattle.std.specs.Prelude.{ℕ, ◌-◌, List, [], ◌∷◌, ◌++◌, Bool, true, false, ◌&&◌, Option, Some, None, if◌then◌else◌, nat_eq, slice_get}
 use Rattle.ax_store.specs.declared.entry.Entry.{Entry}
 use Rattle.ax_store.specs.declared.entry.Reservation.{Reservation}
-use Rattle.ax_store.specs.Bytes.{number_at, byte_of, covers, cut, put, set_inside}
-use Rattle.ax_store.specs.Regions.{in_regions}
+use Rattle.ax_map.specs.Map.{covers, in_regions}
+use Rattle.ax_store.specs.Bytes.{number_at, byte_of, cut, put, set_inside}
 use Rattle.ax_store.specs.Reservations.{left_of, stands_for}
 
 pub record Storage : Type 0 where

@@ -1,9 +1,12 @@
 // Memory: a list of regions.
-ghost use Rattle.std.specs.Prelude.{◌≡◌, ◌↔◌, ◌*◌, ◌<◌, ◌≤◌, ◌^◌, IsTrue, length, slice_index_or, slice_set, IfOk, All, replicate};
+ghost use Rattle.std.specs.Prelude.{◌≡◌, ◌↔◌, ◌*◌, ◌<◌, ◌≤◌, ◌^◌, ◌+◌, ℕ, true, IsTrue, length, slice_index_or, slice_set, IfOk, IfSome, All, replicate};
 ghost use Rattle.ax_store.specs.Bytes.{all_inside, byte_of, number_at, put, set_inside};
 ghost use Rattle.ax_store.specs.Places.{byte_at, bytes_set, is_inside, part_of, place_in, regions_of};
-ghost use Rattle.ax_store.specs.Regions.{IsFrameSize, IsGlobalsEnd, in_regions};
+ghost use Rattle.ax_store.specs.Spans.{HasByte, IsRow, IsSpan, along, byte_along, set_along};
+ghost use Rattle.ax_map.specs.Map.{IsFrameSize, IsGlobalsEnd, in_regions};
 
+use crate::span::{Span, row};
+use ax_map::{FRAME_ROOM, FRAMES_START, GLOBALS_START, LOCK_TABLE_END, LOCK_TABLE_START};
 use std::alloc::{AllocError, Global};
 use std::marker::Model;
 
@@ -50,12 +53,12 @@ impl Region {
 fn region_number(a: u128) -> u128
     ensures { result ≡ part_of a }
 {
-    if a < 0x10000 {
+    if a < u128::from(GLOBALS_START) {
         0
-    } else if a < 0x1000000 {
+    } else if a < u128::from(FRAMES_START) {
         1
     } else {
-        (a - 0x1000000) / 0x20000 + 2
+        (a - u128::from(FRAMES_START)) / u128::from(FRAME_ROOM) + 2
     }
 }
 
@@ -63,14 +66,14 @@ fn region_offset(a: u128) -> u128
     requires { a < 2 ^ 65 }
     ensures { result ≡ place_in a }
 {
-    if a < 0x8000 {
-        a + 0x8000
-    } else if a < 0x10000 {
-        a - 0x8000
-    } else if a < 0x1000000 {
-        a - 0x10000
+    if a < u128::from(LOCK_TABLE_START) {
+        a + u128::from(LOCK_TABLE_START)
+    } else if a < u128::from(GLOBALS_START) {
+        a - u128::from(LOCK_TABLE_START)
+    } else if a < u128::from(FRAMES_START) {
+        a - u128::from(GLOBALS_START)
     } else {
-        0x1ffff - (a - 0x1000000) % 0x20000
+        u128::from(FRAME_ROOM) - 1 - (a - u128::from(FRAMES_START)) % u128::from(FRAME_ROOM)
     }
 }
 
@@ -122,7 +125,8 @@ impl Memory {
         ensures bytes { IfOk result (λ m. byte_at m ≡ (λ a. 0)) }
         ensures inside { IfOk result (λ m. is_inside m ≡ in_regions end frames.now) }
     {
-        Memory::of_zeros(alloc, 0x4000, end - 0x10000, frames)
+        let table = LOCK_TABLE_END - LOCK_TABLE_START;
+        Memory::of_zeros(alloc, table, end - GLOBALS_START, frames)
     }
 
     pub fn byte(&self, a: u128) -> u8
@@ -165,8 +169,57 @@ impl Memory {
         self.set_place(a, b);
     }
 
-    /// Writes the low n bytes of a number.
-    pub fn write(&mut self, a: u64, n: u8, v: u128)
+    /// Whether the regions have these n bytes.
+    fn has_span(&self, span: Span, n: u8) -> bool
+        requires some { 0 < n }
+        requires below { span.descends ≡ true → n ≤ span.first + 1 }
+        ensures { IsTrue result → (i : ℕ) → i < n → HasByte self.now i span }
+    {
+        if span.region >= self.regions.len() {
+            return false;
+        }
+        let size = self.regions[span.region].bytes.len();
+        span.first < size && (span.descends || n as usize <= size - span.first)
+    }
+
+    /// The n bytes from a on, where they lie in one region.
+    fn span(&self, a: u64, n: u8) -> Option<Span>
+        requires { 0 < n }
+        ensures { IfSome result (λ s. IsSpan self.now a n s) }
+    {
+        let span = row(a, n)?;
+        if !self.has_span(span, n) {
+            return None;
+        }
+        Some(span)
+    }
+
+    fn byte_along(&self, span: Span, i: u8) -> u8
+        requires { HasByte self.now i span }
+        ensures { result ≡ byte_along self.now span i }
+    {
+        self.regions[span.region].bytes[along(span, i)]
+    }
+
+    fn set_along(&mut self, span: Span, i: u8, b: u8)
+        requires { HasByte self.old i span }
+        ensures { self.new ≡ set_along self.old span i b }
+    {
+        let region = &mut self.regions[span.region];
+        region.bytes[along(span, i)] = b;
+    }
+
+    fn write_along(&mut self, span: Span, a: u64, n: u8, v: u128)
+        requires { IsSpan self.old a n span }
+        ensures bytes { byte_at self.new ≡ put (is_inside self.old) a n v (byte_at self.old) }
+        ensures inside { is_inside self.new ≡ is_inside self.old }
+    {
+        for i in 0..n {
+            self.set_along(span, i, byte_of_number(v, i));
+        }
+    }
+
+    fn write_each(&mut self, a: u64, n: u8, v: u128)
         ensures bytes { byte_at self.new ≡ put (is_inside self.old) a n v (byte_at self.old) }
         ensures inside { is_inside self.new ≡ is_inside self.old }
     {
@@ -175,8 +228,36 @@ impl Memory {
         }
     }
 
-    /// The number in n bytes.
-    pub fn read(&self, a: u64, n: u8) -> u128
+    /// Writes the low n bytes of a number.
+    pub fn write(&mut self, a: u64, n: u8, v: u128)
+        ensures bytes { byte_at self.new ≡ put (is_inside self.old) a n v (byte_at self.old) }
+        ensures inside { is_inside self.new ≡ is_inside self.old }
+    {
+        if n > 0 {
+            if let Some(span) = self.span(a, n) {
+                self.write_along(span, a, n, v);
+                return;
+            }
+        }
+        self.write_each(a, n, v);
+    }
+
+    fn read_along(&self, span: Span, a: u64, n: u8) -> u64
+        requires width { n ≤ 8 }
+        requires span { IsSpan self.now a n span }
+        ensures number { result ≡ number_at (byte_at self.now) a n }
+        ensures small { result < 2 ^ (8 * n) }
+    {
+        let mut value: u64 = 0;
+        let mut i = n;
+        while i > 0 {
+            i -= 1;
+            value = value * 256 + self.byte_along(span, i) as u64;
+        }
+        value
+    }
+
+    fn read_each(&self, a: u64, n: u8) -> u128
         requires { n ≤ 16 }
         ensures number { result ≡ number_at (byte_at self.now) a n }
         ensures small { result < 2 ^ (8 * n) }
@@ -190,8 +271,21 @@ impl Memory {
         value
     }
 
-    /// Are all n bytes inside?
-    pub fn all_inside(&self, a: u64, n: u8) -> bool
+    /// The number in n bytes.
+    pub fn read(&self, a: u64, n: u8) -> u128
+        requires { n ≤ 16 }
+        ensures number { result ≡ number_at (byte_at self.now) a n }
+        ensures small { result < 2 ^ (8 * n) }
+    {
+        if n > 0 && n <= 8 {
+            if let Some(span) = self.span(a, n) {
+                return self.read_along(span, a, n) as u128;
+            }
+        }
+        self.read_each(a, n)
+    }
+
+    fn each_inside(&self, a: u64, n: u8) -> bool
         requires { n ≤ 16 }
         ensures { result ≡ all_inside (is_inside self.now) a n }
     {
@@ -201,6 +295,29 @@ impl Memory {
             }
         }
         true
+    }
+
+    /// Are all n bytes inside?
+    pub fn all_inside(&self, a: u64, n: u8) -> bool
+        requires { n ≤ 16 }
+        ensures { result ≡ all_inside (is_inside self.now) a n }
+    {
+        if n > 0 && self.span(a, n).is_some() {
+            return true;
+        }
+        self.each_inside(a, n)
+    }
+}
+
+fn along(span: Span, i: u8) -> usize
+    requires below { span.descends ≡ true → i ≤ span.first }
+    requires small { along span i < 2 ^ 64 }
+    ensures { result ≡ along span i }
+{
+    if span.descends {
+        span.first - i as usize
+    } else {
+        span.first + i as usize
     }
 }
 

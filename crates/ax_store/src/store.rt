@@ -2,7 +2,7 @@
 ghost use Rattle.std.specs.Prelude.{drop, is_some, ◌≡◌, ◌*◌, ◌+◌, ◌^◌, ◌<◌, ◌≤◌, ℕ, true, false, OnOk, OnErr, IfOk, Option, None, All, length, replicate, slice_index_or};
 ghost use Rattle.ax_store.specs.Buffers.{latest, none};
 ghost use Rattle.ax_store.specs.Bytes.{IsWidth, all_inside, cut, number_at};
-ghost use Rattle.ax_store.specs.Regions.{IsFrameSize, IsGlobalsEnd, IsProcessorCount};
+ghost use Rattle.ax_map.specs.Map.{IsFrameSize, IsGlobalsEnd, IsProcessorCount};
 ghost use Rattle.ax_store.specs.Storage.{byte_put, drained, dropped, entered, flushed, linked_at, load, may_pair, oldest, pair_stored, replaced, started, stored, with_linked, with_waiting, wrote};
 ghost use Rattle.ax_store.specs.Store.{HasRoom, byte_over, Kept, processors, reserved, spare_of, spared, storage_of};
 
@@ -169,6 +169,19 @@ impl Store {
 
     /// The number in the n bytes from a on as p sees them: byte by byte p's newest store that waits, else memory.
     pub fn load(&self, p: u8, a: u64, n: u8) -> u128
+        requires within { p < processors self.now }
+        requires width { IsWidth n }
+        ensures number { result ≡ load p a n (storage_of self.now) }
+        ensures unbuffered { self.now.buffered ≡ false → result ≡ number_at (storage_of self.now).mem a n }
+        ensures fits { result < 2 ^ (8 * n) }
+    {
+        if self.pending(p) == 0 {
+            return self.read(a, n);
+        }
+        self.load_each(p, a, n)
+    }
+
+    fn load_each(&self, p: u8, a: u64, n: u8) -> u128
         requires within { p < processors self.now }
         requires width { IsWidth n }
         ensures number { result ≡ load p a n (storage_of self.now) }

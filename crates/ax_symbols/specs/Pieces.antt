@@ -19,7 +19,7 @@ use Rattle.ax_symbols.specs.declared.vocabulary.Word.TheVariants as word
 use Rattle.ax_symbols.specs.declared.symbol.Punctuation.TheVariants as mark
 use Rattle.ax_symbols.specs.declared.symbol.Sign.{Sign}
 use Rattle.ax_symbols.specs.declared.symbol.Sign.TheVariants as sign
-use Rattle.ax_symbols.specs.declared.symbol.Span.{Span}
+use Rattle.ax_symbols.specs.declared.symbol.NameSpan.{NameSpan}
 use Rattle.ax_symbols.specs.declared.symbol.Symbol.{Symbol}
 use Rattle.ax_symbols.specs.declared.pass.Pass.{Pass}
 use Rattle.ax_symbols.specs.declared.pass.Pass.TheVariants as pass
@@ -121,34 +121,34 @@ is_count _ = false
 abbrev pub count_of : Symbol → Option ℕ
 count_of s = count_in s.sign
 
-abbrev pub local_in : Span → Sign → Option Span
+abbrev pub local_in : NameSpan → Sign → Option NameSpan
 local_in name sign.Local = Some name
 local_in name _ = None
 
-abbrev pub local_of : Symbol → Option Span
+abbrev pub local_of : Symbol → Option NameSpan
 local_of s = local_in s.name s.sign
 
 -- a global's name, whatever it begins with
-abbrev pub global_in : Span → Sign → Option Span
+abbrev pub global_in : NameSpan → Sign → Option NameSpan
 global_in name sign.Global = Some name
 global_in name sign.Intrinsic = Some name
 global_in name sign.Lifetime = Some name
 global_in name _ = None
 
-abbrev pub global_of : Symbol → Option Span
+abbrev pub global_of : Symbol → Option NameSpan
 global_of s = global_in s.name s.sign
 
 -- what a call calls, and whether its name begins with `llvm.lifetime.`
-abbrev pub callee_in : Span → Sign → Option (Span × Bool)
+abbrev pub callee_in : NameSpan → Sign → Option (NameSpan × Bool)
 callee_in name sign.Global = Some (name, false)
 callee_in name sign.Intrinsic = Some (name, false)
 callee_in name sign.Lifetime = Some (name, true)
 callee_in name _ = None
 
-abbrev pub callee_of : Symbol → Option (Span × Bool)
+abbrev pub callee_of : Symbol → Option (NameSpan × Bool)
 callee_of s = callee_in s.name s.sign
 
-abbrev pub base_in : Span → Sign → Option Base
+abbrev pub base_in : NameSpan → Sign → Option Base
 base_in name sign.Global = Some (base.Global name)
 base_in name sign.Intrinsic = Some (base.Global name)
 base_in name sign.Lifetime = Some (base.Global name)
@@ -168,7 +168,7 @@ is_label_sign sign.SingleThread = true
 is_label_sign sign.Text = true
 is_label_sign _ = false
 
-abbrev pub label_of : Symbol → Option Span
+abbrev pub label_of : Symbol → Option NameSpan
 label_of s = if is_label_sign s.sign then Some s.name else None
 
 -- minus a number
@@ -190,7 +190,7 @@ const_in _ = None
 abbrev pub const_of : Symbol → Option Value
 const_of s = const_in s.sign
 
-abbrev pub value_in : Span → Sign → Option Value
+abbrev pub value_in : NameSpan → Sign → Option Value
 value_in name sign.Local = Some (value.Local name)
 value_in name s = const_in s
 

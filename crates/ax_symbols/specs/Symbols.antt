@@ -13,7 +13,7 @@ use Rattle.ax_symbols.specs.declared.vocabulary.Word.TheVariants as word
 use Rattle.ax_symbols.specs.declared.symbol.Punctuation.TheVariants as mark
 use Rattle.ax_symbols.specs.declared.symbol.Sign.{Sign}
 use Rattle.ax_symbols.specs.declared.symbol.Sign.TheVariants as sign
-use Rattle.ax_symbols.specs.declared.symbol.Span.{Span}
+use Rattle.ax_symbols.specs.declared.symbol.NameSpan.{NameSpan}
 use Rattle.ax_symbols.specs.declared.symbol.Symbol.{Symbol}
 
 -- ---- numbers
@@ -70,7 +70,7 @@ within s bytes = take (length (drop s.0 bytes) - s.1) (drop s.0 bytes)
 abbrev pub name_of : TokenKind → List ℕ → List ℕ
 name_of kind bytes = within (sides_of kind bytes) bytes
 
-abbrev pub span_of : Token → ℕ × ℕ → Span
+abbrev pub span_of : Token → ℕ × ℕ → NameSpan
 span_of t s = record { start = t.start + s.0; end = t.end - s.1 }
 
 abbrev pub global_sign : List ℕ → Sign

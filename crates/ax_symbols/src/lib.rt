@@ -19,7 +19,7 @@ pub use pass::{Pass, pass_over, tail};
 pub use piece::{
     base, callee, constant, count, global, is_label_sign, label, local, part, sign_at, strip, value,
 };
-pub use symbol::{Punctuation, Sign, Span, Symbol};
+pub use symbol::{NameSpan, Punctuation, Sign, Symbol};
 pub use symbols::{is_feed, symbols_of, words_are_read_again};
 pub use types::type_at;
 pub use values::{Base, Value};

@@ -4,7 +4,7 @@ ghost use Rattle.std.specs.Prelude.{◌≡◌, ℕ, Some, true, false};
 ghost use Rattle.ax_symbols.specs.Pieces.{Gives, strip, one_at, sign_at, count_of, count_in, local_of, local_in, global_of, global_in, callee_of, base_of, base_in, label_of, is_label_sign, const_of, const_in, number_value, value_of, value_in, part_of, part_in, callee_in};
 
 use crate::signs::same;
-use crate::symbol::{Sign, Span, Symbol};
+use crate::symbol::{NameSpan, Sign, Symbol};
 use crate::values::{Base, Value};
 use crate::vocabulary::Word;
 
@@ -35,7 +35,7 @@ pub fn sign_at(line: &[Symbol], place: usize) -> Sign
     }
 }
 
-fn local_in(name: Span, sign: Sign) -> Option<Span>
+fn local_in(name: NameSpan, sign: Sign) -> Option<NameSpan>
     ensures { result ≡ local_in name sign }
 {
     match sign {
@@ -45,7 +45,7 @@ fn local_in(name: Span, sign: Sign) -> Option<Span>
 }
 
 /// The name of a local.
-pub fn local(line: &[Symbol]) -> Option<(Span, &[Symbol])>
+pub fn local(line: &[Symbol]) -> Option<(NameSpan, &[Symbol])>
     ensures { Gives (λ x. (x.0, x.1.now)) result (one_at local_of line.now) }
 {
     let [first, rest @ ..] = line else {
@@ -55,7 +55,7 @@ pub fn local(line: &[Symbol]) -> Option<(Span, &[Symbol])>
     Some((name, rest))
 }
 
-fn global_in(name: Span, sign: Sign) -> Option<Span>
+fn global_in(name: NameSpan, sign: Sign) -> Option<NameSpan>
     ensures { result ≡ global_in name sign }
 {
     match sign {
@@ -65,7 +65,7 @@ fn global_in(name: Span, sign: Sign) -> Option<Span>
 }
 
 /// The name of a global.
-pub fn global(line: &[Symbol]) -> Option<(Span, &[Symbol])>
+pub fn global(line: &[Symbol]) -> Option<(NameSpan, &[Symbol])>
     ensures { Gives (λ x. (x.0, x.1.now)) result (one_at global_of line.now) }
 {
     let [first, rest @ ..] = line else {
@@ -75,7 +75,7 @@ pub fn global(line: &[Symbol]) -> Option<(Span, &[Symbol])>
     Some((name, rest))
 }
 
-fn callee_in(name: Span, sign: Sign) -> Option<(Span, bool)>
+fn callee_in(name: NameSpan, sign: Sign) -> Option<(NameSpan, bool)>
     ensures { result ≡ callee_in name sign }
 {
     match sign {
@@ -86,7 +86,7 @@ fn callee_in(name: Span, sign: Sign) -> Option<(Span, bool)>
 }
 
 /// The name that is called, and whether it begins with `llvm.lifetime.`.
-pub fn callee(line: &[Symbol]) -> Option<((Span, bool), &[Symbol])>
+pub fn callee(line: &[Symbol]) -> Option<((NameSpan, bool), &[Symbol])>
     ensures { Gives (λ x. (x.0, x.1.now)) result (one_at callee_of line.now) }
 {
     let [first, rest @ ..] = line else {
@@ -96,7 +96,7 @@ pub fn callee(line: &[Symbol]) -> Option<((Span, bool), &[Symbol])>
     Some((called, rest))
 }
 
-fn base_in(name: Span, sign: Sign) -> Option<Base>
+fn base_in(name: NameSpan, sign: Sign) -> Option<Base>
     ensures { result ≡ base_in name sign }
 {
     match sign {
@@ -133,7 +133,7 @@ pub fn is_label_sign(sign: Sign) -> bool
 }
 
 /// The name of a label: a word, a literal or a text.
-pub fn label(line: &[Symbol]) -> Option<(Span, &[Symbol])>
+pub fn label(line: &[Symbol]) -> Option<(NameSpan, &[Symbol])>
     ensures { Gives (λ x. (x.0, x.1.now)) result (one_at label_of line.now) }
 {
     let [first, rest @ ..] = line else {
@@ -231,7 +231,7 @@ pub fn constant(line: &[Symbol]) -> Option<(Value, &[Symbol])>
     Some((value, rest))
 }
 
-fn value_in(name: Span, sign: Sign) -> Option<Value>
+fn value_in(name: NameSpan, sign: Sign) -> Option<Value>
     ensures { result ≡ value_in name sign }
 {
     match sign {

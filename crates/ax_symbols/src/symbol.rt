@@ -50,7 +50,7 @@ pub enum Sign {
 /// The place of a name in the text, from its first byte to behind its last, without `%`, `@` and
 /// quotes.
 #[derive(Clone, Copy)]
-pub struct Span {
+pub struct NameSpan {
     pub start: usize,
     pub end: usize,
 }
@@ -59,5 +59,5 @@ pub struct Span {
 #[derive(Clone, Copy)]
 pub struct Symbol {
     pub sign: Sign,
-    pub name: Span,
+    pub name: NameSpan,
 }

@@ -6,7 +6,7 @@ ghost use Rattle.ax_symbols.specs.Symbols.{number_or_odd, literal_sign, find_wor
 ghost use Rattle.ax_symbols.specs.Signs.{word_text};
 ghost use Rattle.ax_symbols.specs.declared.vocabulary.Word.{Word};
 
-use crate::symbol::{Punctuation, Sign, Span, Symbol};
+use crate::symbol::{NameSpan, Punctuation, Sign, Symbol};
 use crate::vocabulary::{WORDS, Word};
 use ax_lex::{Token, TokenKind, decimal, text_of};
 use std::alloc::{AllocError, Global};
@@ -158,11 +158,11 @@ fn sign_of(kind: TokenKind, bytes: &[u8]) -> Sign
     }
 }
 
-fn span_of(text: &[u8], token: Token) -> Span
+fn span_of(text: &[u8], token: Token) -> NameSpan
     ensures { result ≡ span_of token (sides_of token.kind (text_at text.now token)) }
 {
     let (before, behind) = sides_of(token.kind, text_of(text, token));
-    Span {
+    NameSpan {
         start: token.start + before,
         end: token.end - behind,
     }

@@ -27,10 +27,10 @@ use Rattle.ax_loops.specs.Moving.{nowhere}
 use Rattle.ax_loops.specs.Updating.{update_replacement, updating_on}
 use Rattle.ax_loops.proofs.Updating.{update_replaces}
 use Rattle.ax_trials.specs.Buffered.{at_register}
-use Rattle.ax_trials.specs.Registers.{all_but}
+use Rattle.ax_loops.specs.Registers.{all_but}
 use Rattle.ax_trials.specs.Nand.{AreNandRegisters, NandRegisters, nand_update}
 use Rattle.ax_trials.proofs.Buffered.{at_object}
-use Rattle.ax_trials.proofs.Registers.{apart, cut_same, is_held, not_scratch, with_result}
+use Rattle.ax_loops.proofs.Registers.{apart, cut_same, is_held, not_scratch, with_result}
 
 load_effect : (address to : ℕ) (c : Processor) → effect_of (x86.Load Quad (at_register address) to) c ≡ effect.Load to (displaced (c.regs address) (pos 0)) 8 Zeros false
 unfolding effect_of

@@ -41,10 +41,10 @@ use Rattle.ax_loops.specs.Exchanging.{Answers, Exchange, IsExchange, Stores}
 use Rattle.ax_loops.specs.PairExchange.{AtPair, Exchanges, HasLinked, IsThrough, PairExchange, exchange_code as pair_code, exchange_size, laid}
 use Rattle.ax_loops.specs.Ways.{Leaves, Way}
 use Rattle.ax_loops.proofs.Updating.{wrote_sees}
-use Rattle.ax_trials.specs.Registers.{all_but}
+use Rattle.ax_loops.specs.Registers.{all_but}
 use Rattle.ax_trials.specs.PairExchange.{AreExchangeRegisters, CompareExchange, ExchangeRegisters, exchange_code, exchanging_on}
 use Rattle.ax_trials.proofs.Pairs.{read_is}
-use Rattle.ax_trials.proofs.Registers.{apart, cut_same, is_held, with_result}
+use Rattle.ax_loops.proofs.Registers.{apart, cut_same, is_held, with_result}
 
 -- ---- the operation
 abbrev exchange : ExchangeRegisters → Exchange Shared

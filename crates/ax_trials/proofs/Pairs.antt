@@ -22,9 +22,9 @@ use Rattle.ax_expand.specs.Private.{Private}
 use Rattle.ax_loops.specs.Retry.{Retries, RetryLoop, Computes}
 use Rattle.ax_loops.specs.Updating.{update_replacement, updating_on}
 use Rattle.ax_loops.proofs.Updating.{update_replaces}
-use Rattle.ax_trials.specs.Registers.{all_but}
+use Rattle.ax_loops.specs.Registers.{all_but}
 use Rattle.ax_trials.specs.Pairs.{ArePairRegisters, PairRegisters}
-use Rattle.ax_trials.proofs.Registers.{apart, cut_same, is_held, not_scratch, with_result}
+use Rattle.ax_loops.proofs.Registers.{apart, cut_same, is_held, not_scratch, with_result}
 
 abbrev pub adding_loop : (ℕ → Bool) → Ending → Ending → PairRegisters → RetryLoop RvInstr
 adding_loop keeps acquire release r =

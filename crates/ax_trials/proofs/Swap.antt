@@ -27,9 +27,9 @@ use Rattle.ax_loops.specs.Compare.{Compares, CompareLoop, Computes, Exchanges, I
 use Rattle.ax_loops.specs.Moving.{nowhere}
 use Rattle.ax_loops.specs.Updating.{update_replacement, updating_on}
 use Rattle.ax_loops.proofs.Updating.{update_replaces}
-use Rattle.ax_trials.specs.Registers.{all_but}
+use Rattle.ax_loops.specs.Registers.{all_but}
 use Rattle.ax_trials.specs.Swap.{AreSwapRegisters, SwapRegisters}
-use Rattle.ax_trials.proofs.Registers.{apart, cut_same, is_held, not_scratch, with_result}
+use Rattle.ax_loops.proofs.Registers.{apart, cut_same, is_held, not_scratch, with_result}
 
 load_effect : (to address : ℕ) (c : Processor) → effect_of (arm.Ldr sizes.Double to address 0) c ≡ effect.Load to (moved (c.regs address) 0) 8 Zeros false
 unfolding effect_of

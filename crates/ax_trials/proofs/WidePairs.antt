@@ -23,10 +23,10 @@ use Rattle.ax_expand.proofs.Sights.{object_number, shared_number}
 use Rattle.ax_loops.specs.Replacing.{Replacement, Replaces}
 use Rattle.ax_loops.specs.WideRetry.{HasBoth, Prepares, WideLoop, WideRetries}
 use Rattle.ax_loops.proofs.Updating.{seen_small, wrote_sees}
-use Rattle.ax_trials.specs.Registers.{all_but}
+use Rattle.ax_loops.specs.Registers.{all_but}
 use Rattle.ax_trials.specs.WidePairs.{AreWideRegisters, WideExchange, WideRegisters, wide_on}
 use Rattle.ax_trials.proofs.PairExchange.{empty_pending, sent_same}
-use Rattle.ax_trials.proofs.Registers.{apart, is_held, not_scratch, with_result}
+use Rattle.ax_loops.proofs.Registers.{apart, is_held, not_scratch, with_result}
 
 link_effect : (low high address : ℕ) (c : Processor) → effect_of (arm.Ldxp low high address) c ≡ linked_pair c.half low high (c.regs address)
 unfolding effect_of

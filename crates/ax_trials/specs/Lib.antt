@@ -1,4 +1,3 @@
-pub mod Registers
 pub mod Pairs
 pub mod Buffered
 pub mod Refused

@@ -29,7 +29,7 @@ use Rattle.ax_source_run.specs.SourceState.{Object, Shared, Private, Pointer, So
 use Rattle.ax_source_run.specs.SourceValues.{number_of_flag, operand_of, type_bits}
 use Rattle.ax_rules.specs.declared.facts.Outcome.{Outcome}
 use Rattle.ax_rules.specs.declared.facts.Outcome.TheVariants as outcome
-use Rattle.ax_rules.specs.declared.facts.Scope.{Scope}
+use Rattle.ax_rules.specs.declared.facts.FunctionScope.{FunctionScope}
 use Rattle.ax_rules.specs.Facts.{call_outcome, extent_of, origin_of, outcome_of, scope_of}
 use Rattle.ax_rules.specs.Kind.{is_other}
 use Rattle.ax_access_rules.specs.Mixed.{is_element_of, is_mistyped, is_mixed_call, is_mixed_inst, is_mixed_size, is_sized, size_by, size_of}
@@ -88,7 +88,7 @@ result_some t None h = absurd (false≢true h)
 result_some t (Some u) h = ap outcome.Number (sym (same_types t u h))
 
 -- the size of a call
-sized_by : (scope : Scope) (o : Option ℕ) (pointers : List Addr) → is_mixed_size scope o pointers ≡ false → (size : ℕ) × (o ≡ Some size) × (list_any (λ (a : Addr). not (is_element_of size (extent_of scope (origin_of scope a.base)))) pointers ≡ false)
+sized_by : (scope : FunctionScope) (o : Option ℕ) (pointers : List Addr) → is_mixed_size scope o pointers ≡ false → (size : ℕ) × (o ≡ Some size) × (list_any (λ (a : Addr). not (is_element_of size (extent_of scope (origin_of scope a.base)))) pointers ≡ false)
 sized_by scope None pointers h = absurd (true≢false h)
 sized_by scope (Some n) pointers h = (n, refl, h)
 

@@ -18,7 +18,7 @@ use Rattle.ax_source_run.specs.SourcePointers.{blocks_in, blocks_of, insts_of}
 use Rattle.ax_source_run.specs.SourceState.{SourceProcessor, SourceProgram, SourceValue, Number}
 use Rattle.ax_source_run.specs.SourceValues.{operand_of, type_bits}
 use Rattle.ax_rules.specs.declared.facts.Outcome.{Outcome}
-use Rattle.ax_rules.specs.declared.facts.Scope.{Scope}
+use Rattle.ax_rules.specs.declared.facts.FunctionScope.{FunctionScope}
 use Rattle.ax_rules.specs.Facts.{outcome_of, scope_of}
 use Rattle.ax_access_rules.specs.Mixed.{is_mistyped, is_mixed_inst, is_mixed_pointer}
 use Rattle.ax_rules.specs.Parts.{operands_of, pointers_of}
@@ -66,7 +66,7 @@ phis_at from k old (i ∷ insts) values =
     phi_set (is_phi i) from k old i insts values (phis_set from (k + 1) old insts put) refl (phis_at from (k + 1) old insts put)
 
 -- a phi's outcome is a number of its type
-phi_outcome : (x : Inst) (k : ℕ) (from : ℕ) (values : ℕ → SourceValue) (scope : Scope) → is_phi x ≡ true
+phi_outcome : (x : Inst) (k : ℕ) (from : ℕ) (values : ℕ → SourceValue) (scope : FunctionScope) → is_phi x ≡ true
     → ((t : Ty) (entries : List (Operand × ℕ)) → list_any (is_mistyped scope) (map (λ (e : Operand × ℕ). (t, e.0)) entries) ≡ false → IsOf t (incoming t from entries values))
     → list_any (is_mistyped scope) (operands_of x) ≡ false → IsResultOf (outcome_of x) k (Number (phi_number from values x)) × (IsAllocaOutcome (outcome_of x) → ⊥)
 unfolding is_phi outcome_of operands_of phi_number

@@ -20,7 +20,7 @@ use Rattle.ax_source_run.specs.SourcePointers.{pointer_of}
 use Rattle.ax_source_run.specs.SourceState.{SourceProcessor, SourceProgram, SourceValue}
 use Rattle.ax_source_run.specs.SourceValues.{operand_of}
 use Rattle.ax_rules.specs.declared.facts.Outcome.{Outcome}
-use Rattle.ax_rules.specs.declared.facts.Scope.{Scope}
+use Rattle.ax_rules.specs.declared.facts.FunctionScope.{FunctionScope}
 use Rattle.ax_rules.specs.Facts.{extent_of, origin_of, outcome_of, scope_of}
 use Rattle.ax_rules.specs.Kind.{is_bad_gep, is_bad_pointer, is_other}
 use Rattle.ax_access_rules.specs.Mixed.{is_element_of, is_mistyped, is_mixed_access, is_mixed_inst, is_mixed_pointer}
@@ -65,7 +65,7 @@ module _ (program : SourceProgram) (accepted : IsAccepted program) (law : AtInst
   abbrev m : Module
   m = program.source
 
-  abbrev scope : Scope
+  abbrev scope : FunctionScope
   scope = scope_of m s.function
 
   abbrev sound : IsSound program s.function (record { block = c.block; number = number_of_next program c; inst = i })

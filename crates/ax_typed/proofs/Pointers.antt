@@ -27,7 +27,7 @@ use Rattle.ax_rules.specs.declared.facts.Extent.{Extent}
 use Rattle.ax_rules.specs.declared.facts.Origin.TheVariants as origin
 use Rattle.ax_rules.specs.declared.facts.Outcome.{Outcome}
 use Rattle.ax_rules.specs.declared.facts.Outcome.TheVariants as outcome
-use Rattle.ax_rules.specs.declared.facts.Scope.{Scope}
+use Rattle.ax_rules.specs.declared.facts.FunctionScope.{FunctionScope}
 use Rattle.ax_rules.specs.Facts.{extent_of, extent_of_global, extent_of_outcome, origin_of, origin_of_alloca, origin_of_step, origin_of_value, outcome_at, outcome_of, scope_of}
 use Rattle.ax_rules.specs.Kind.{is_alloca_address, is_bad_pointer, is_gep, is_gep_address}
 use Rattle.ax_access_rules.specs.Mixed.{is_element_of, is_mistyped, is_mixed_access, is_number_of, is_other_element}
@@ -80,7 +80,7 @@ module _ (program : SourceProgram) (accepted : IsAccepted program) (law : AtInst
   abbrev m : Module
   m = program.source
 
-  abbrev scope : Scope
+  abbrev scope : FunctionScope
   scope = scope_of m s.function
 
   pub outcomes : (k : ℕ) → outcome_at scope k ≡ outcome_in m c.function k

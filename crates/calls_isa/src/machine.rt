@@ -7,6 +7,7 @@ use crate::effects::{is_effect, is_paired};
 use crate::sets::{Set, effect_of};
 use crate::spelled::PLACE;
 use ax_isa::{Cpu, Outcome, Role, Status, step_effect};
+use ax_map::{FRAME_ROOM, FRAMES_START, GLOBALS_START};
 use ax_rows::{Fault, number};
 use ax_store::Store;
 use std::alloc::{AllocError, Global};
@@ -50,11 +51,11 @@ fn address_of(k: u64) -> u64
     ensures { result < 2 ^ 32 }
 {
     if k < 16 {
-        0x10000 + 8 * k
+        GLOBALS_START + 8 * k
     } else if k < 24 {
-        0x101ffc0 + 8 * (k - 16)
+        FRAMES_START + FRAME_ROOM - 64 + 8 * (k - 16)
     } else {
-        0x103ffc0 + 8 * (k - 24)
+        FRAMES_START + 2 * FRAME_ROOM - 64 + 8 * (k - 24)
     }
 }
 
@@ -152,7 +153,7 @@ impl Machine {
     /// Memory and registers hold 0.
     pub(crate) fn new(alloc: Global, is_buffered: bool) -> Result<Machine, AllocError> {
         Ok(Machine {
-            store: Store::new(alloc, 0x10080, [64, 64].as_slice(), is_buffered)?,
+            store: Store::new(alloc, GLOBALS_START + 128, [64, 64].as_slice(), is_buffered)?,
             cpus: [processor(), processor()],
             is_buffered,
         })

@@ -6,6 +6,7 @@ ghost use Rattle.ax_store.specs.Bytes.{IsWidth};
 ghost use Rattle.ax_store.specs.Store.{processors};
 
 use ax_isa::{Back, Change, Cpu, Effect, Outcome, Rest, Role, Status, step_effect};
+use ax_map::GLOBALS_START;
 use ax_rows::{Fault, number};
 use ax_store::Store;
 use ax_words::RmwOp;
@@ -94,8 +95,8 @@ fn storage(alloc: Global) -> Result<Store, Fault>
     ensures plain { IfOk result (λ s. s.buffered ≡ false) }
     ensures one { IfOk result (λ s. processors s ≡ 1) }
 {
-    let mut storage = Store::new(alloc, 0x10010, [8].as_slice(), false)?;
-    storage.set(0x10000, 5);
+    let mut storage = Store::new(alloc, GLOBALS_START + 16, [8].as_slice(), false)?;
+    storage.set(GLOBALS_START, 5);
     Ok(storage)
 }
 
@@ -128,5 +129,5 @@ pub(crate) fn stepped(alloc: Global, place: &str, words: &[&str]) -> Result<Stri
     let mut storage = storage(alloc)?;
     let mut cpu = processor(u32::try_from(number(place)?)?);
     let shown = step_effect(&effect, 0, &mut cpu, &mut storage);
-    Ok(told(alloc, shown, &cpu, storage.load(0, 0x10000, 16))?)
+    Ok(told(alloc, shown, &cpu, storage.load(0, GLOBALS_START, 16))?)
 }

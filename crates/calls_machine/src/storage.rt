@@ -2,9 +2,10 @@
 
 ghost use Rattle.std.specs.Prelude.{◌≡◌, ◌<◌, ◌↔◌, All, IfOk, IsTrue, false, length};
 ghost use Rattle.ax_store.specs.Bytes.{IsWidth};
-ghost use Rattle.ax_store.specs.Regions.{IsFrameSize, IsGlobalsEnd};
+ghost use Rattle.ax_map.specs.Map.{IsFrameSize, IsGlobalsEnd};
 ghost use Rattle.ax_store.specs.Store.{processors};
 
+use ax_map::{FRAME_ROOM, GLOBALS_LIMIT, GLOBALS_START};
 use ax_rows::{Fault, number};
 use ax_store::{Entry, Store};
 use std::alloc::{AllocError, Global};
@@ -24,7 +25,7 @@ fn end_of(word: &str) -> Result<u64, Fault>
     ensures { IfOk result IsGlobalsEnd }
 {
     let end = u64::try_from(number(word)?)?;
-    if (0x10000..=0x110000).contains(&end) && end % 16 == 0 {
+    if (GLOBALS_START..=GLOBALS_LIMIT).contains(&end) && end % 16 == 0 {
         Ok(end)
     } else {
         Err(Fault::Row)
@@ -35,7 +36,7 @@ fn frame_of(word: &str) -> Result<u64, Fault>
     ensures { IfOk result IsFrameSize }
 {
     let size = word.parse::<u64>()?;
-    if (8..=131_072).contains(&size) && size % 8 == 0 {
+    if (8..=FRAME_ROOM).contains(&size) && size % 8 == 0 {
         Ok(size)
     } else {
         Err(Fault::Row)

@@ -4,6 +4,7 @@
 use crate::halt::Halt;
 use crate::objects::Objects;
 use crate::processor::{Processor, Setting};
+use ax_map::{FRAME_ROOM, FRAMES_START};
 use ax_pieces::block_label;
 use ax_words::{SourceEvent, SourceStatus};
 
@@ -19,14 +20,14 @@ pub(crate) struct Middle<'a> {
 /// Processors at the first blocks of their entries, with frames behind the globals.
 fn processors(setting: &Setting, entries: &[u32]) -> Result<Vec<Processor>, Halt> {
     let mut made = Vec::new(setting.alloc);
-    let mut base = 0x100_0000u64;
+    let mut base = FRAMES_START;
     for entry in entries {
         if *entry >= 64 {
             return Err(Halt::Stuck);
         }
         let place = setting.behind(block_label(*entry, 0));
         made.push(Processor::new(setting.alloc, place, base)?)?;
-        base = base.wrapping_add(0x2_0000);
+        base = base.wrapping_add(FRAME_ROOM);
     }
     Ok(made)
 }

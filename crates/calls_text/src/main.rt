@@ -33,7 +33,8 @@ impl Calls for Texts {
             ["spell"] => modules::spelled(alloc, texts),
             ["type", word] => modules::type_of(alloc, word),
             ["schedule"] => schedules::plan_of(alloc, texts),
-            ["event", directive @ ..] => schedules::event(alloc, directive),
+            ["event", words @ ..] => schedules::event(alloc, words),
+            ["mix", seed, n] => schedules::number(alloc, seed, n),
             _ => orders::answer(alloc, words),
         }
     }

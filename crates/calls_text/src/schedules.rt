@@ -2,7 +2,8 @@
 
 use crate::modules::module_in;
 use ax_rows::Fault;
-use ax_sched::{Cause, Item, SchedFault, event_at, read_schedule};
+use ax_sched::{Cause, Item, SchedFault, event_at, mix, read_schedule};
+use ax_target::named;
 use ax_words::Event;
 use std::alloc::{AllocError, Global};
 
@@ -22,6 +23,7 @@ fn push_item(out: &mut String, item: Item) -> Result<(), AllocError> {
         Item::Drain { p, n } => write!(out, ", drain {p} {n}"),
         Item::Drop { p, n } => write!(out, ", drop {p} {n}"),
         Item::Round { n } => write!(out, ", round {n}"),
+        Item::Random { seed, n } => write!(out, ", random {seed} {n}"),
     }
 }
 
@@ -60,16 +62,36 @@ fn event_words(alloc: Global, event: Event) -> Result<String, AllocError> {
     }
 }
 
-/// Event K of a round of N events: `round N PROCESSORS buffered K`, or `plain` for `buffered`.
+/// The directive of these words, a round or a random one.
+fn item_in(words: &[&str]) -> Result<Item, Fault> {
+    match words {
+        ["round", n] => Ok(Item::Round {
+            n: n.parse::<u64>()?,
+        }),
+        ["random", seed, n] => Ok(Item::Random {
+            seed: seed.parse::<u64>()?,
+            n: n.parse::<u64>()?,
+        }),
+        _ => Err(Fault::Row),
+    }
+}
+
+/// Event K of a directive: `TARGET PROCESSORS K` and the directive's words.
 pub(crate) fn event(alloc: Global, words: &[&str]) -> Result<String, Fault> {
-    let ["round", n, processors, kind, k] = words else {
+    let [target, processors, k, directive @ ..] = words else {
         return Err(Fault::Row);
     };
-    let (n, k) = (n.parse::<u64>()?, k.parse::<u64>()?);
-    let processors = processors.parse::<u8>()?;
-    if k >= n || processors == 0 {
+    let target = named(target).ok_or(Fault::Row)?;
+    let (processors, k) = (processors.parse::<u8>()?, k.parse::<u64>()?);
+    let item = item_in(directive)?;
+    if k >= item.times() || processors == 0 {
         return Err(Fault::Row);
     }
-    let event = event_at(Item::Round { n }, processors, *kind == "buffered", k);
-    Ok(event_words(alloc, event)?)
+    Ok(event_words(alloc, event_at(item, processors, target, k))?)
+}
+
+/// A number of the generator.
+pub(crate) fn number(alloc: Global, seed: &str, n: &str) -> Result<String, Fault> {
+    let number = mix(seed.parse::<u64>()?, n.parse::<u64>()?);
+    Ok(format!(in alloc; "{number}")?)
 }

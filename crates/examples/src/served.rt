@@ -6,7 +6,7 @@ use ax_app::serve;
 use ax_io::{HostFiles, MemFiles, MemSink};
 use std::alloc::{AllocError, Global};
 use std::rt::Files;
-use std::{fs, io};
+use std::{fs, io, str};
 
 /// The count and the lines of a piece `N * LINES`.
 fn counted(piece: &str) -> Option<(usize, &str)> {
@@ -63,13 +63,38 @@ fn files_with<R: Files + AllocGlobal>(
     Ok(MemFiles::new(alloc, files, Vec::new(alloc)))
 }
 
+fn words_of(alloc: Global, text: &str) -> Result<Vec<String>, AllocError> {
+    let mut words = Vec::new(alloc);
+    for word in text.split_whitespace() {
+        words.push(String::from_str(alloc, word)?)?;
+    }
+    Ok(words)
+}
+
+/// The lines of a row. A first line `= WORDS` stands for what these words write.
+fn lines_said<R: Files + AllocGlobal>(rt: &R, lines: &str) -> io::Result<String> {
+    let alloc = rt.alloc();
+    let Some(behind) = lines.strip_prefix("= ") else {
+        return Ok(String::from_str(alloc, lines)?);
+    };
+    let (words, rest) = behind.split_once('\n').unwrap_or((behind, ""));
+    let words = words_of(alloc, words)?;
+    let mut sink = MemSink::new(alloc, Vec::new(alloc));
+    let _ = serve(
+        alloc,
+        words.as_slice(),
+        &mut HostFiles::new(alloc, rt),
+        &mut sink,
+    );
+    let mut said = String::from_str(alloc, str::from_utf8(sink.bytes()).unwrap_or("no text\n"))?;
+    said.push_str(rest)?;
+    Ok(said)
+}
+
 /// How what `serve` answers and writes first differs from what the row says.
 pub fn difference_of<R: Files + AllocGlobal>(rt: &R, row: &Row<'_>) -> io::Result<Option<String>> {
     let alloc = rt.alloc();
-    let mut words = Vec::new(alloc);
-    for word in row.words.split_whitespace() {
-        words.push(String::from_str(alloc, word)?)?;
-    }
+    let words = words_of(alloc, row.words)?;
     let words = words.as_slice();
     let mut failing = Vec::new(alloc);
     if let Some(kept) = row.kept {
@@ -80,5 +105,10 @@ pub fn difference_of<R: Files + AllocGlobal>(rt: &R, row: &Row<'_>) -> io::Resul
         Some(text) => serve(alloc, words, &mut files_with(rt, words, text)?, &mut sink),
         None => serve(alloc, words, &mut HostFiles::new(alloc, rt), &mut sink),
     };
-    Ok(difference(alloc, row, done.code(), sink.bytes())?)
+    let lines = lines_said(rt, row.lines)?;
+    let row = Row {
+        lines: lines.as_str(),
+        ..*row
+    };
+    Ok(difference(alloc, &row, done.code(), sink.bytes())?)
 }

@@ -1,4 +1,4 @@
-use Rattle.std.proofs.Common.{◌≡◌, ◌++◌, length, map, sym, ap, ◌∙◌, subst, false, arith}
+use Rattle.std.proofs.Common.{◌≡◌, ◌++◌, length, map, sym, ap, ◌∙◌, subst, arith}
 use Rattle.std.specs.Prelude.{All}
 use Rattle.std.specs.String.{string_bytes}
 use Rattle.std.proofs.lemmas.List.{length-map}
@@ -9,14 +9,13 @@ use Rattle.ax_module.specs.Names.{IsAscii}
 use Rattle.ax_layout.specs.Layout.{CanBeLaidOut, layout_of}
 use Rattle.ax_source_run.specs.SourceState.{SourceProgram}
 use Rattle.ax_sched.specs.Events.{events_of}
-use Rattle.ax_agree.specs.Lowers.{Lowers, NeverIdles, machine_run}
-use Rattle.ax_agree.specs.Rows.{HasRows}
+use Rattle.ax_agree.specs.Lowers.{machine_run}
 use Rattle.ax_agree.specs.Sound.{IsSound}
 use Rattle.ax_rv.specs.Instructions.{IsInstr, rv_kind}
 use Rattle.ax_print.specs.Assembly.{assembly_text}
 use Rattle.ax_run.specs.Run.{IsOf}
 use Rattle.ax_app.specs.Report.{run_report}
-use Rattle.ax_app.proofs.Reports.{gone, report_of}
+use Rattle.ax_app.proofs.Reports.{gone}
 use Rattle.ax_app.proofs.text.text_of.Goals as goal
 
 pub print-requires-clause-names : goal.print-requires-clause-names
@@ -60,28 +59,27 @@ returns c =
     let plan = c.args.plan.now in
     let image = c.in_ok-lowered.lowered.image in
     let r = c.go.new.self in
-    let x = machine_run rv_kind r.machine.image r.program r.plan.entries (events_of false r.plan) in
+    let x = machine_run rv_kind r.machine.image r.program r.plan.entries (events_of r.program.target r.plan) in
     let of : IsOf image p plan r = record {
       image_is = c.go.ensures.kept.image_is ∙ c.in_ok-run.ensures.of.image_is;
       program_is = c.go.ensures.kept.program_is ∙ c.in_ok-run.ensures.of.program_is;
       plan_is = c.go.ensures.kept.plan_is ∙ c.in_ok-run.ensures.of.plan_is;
     } in
     let functions = map (λ (f : Function). f.name) p.source.functions in
-    let globals = map (λ (g : Global). g.name) p.source.globals in
-    let whole = c.as_slice.ensures ∙ ap (λ (m : Module). m.globals) c.module.ensures in
+    let whole = c.as_slice.ensures ∙ ap (λ (m : Module). m.globals) c.module.ensures ∙ sym (ap (λ (q : SourceProgram). q.source.globals) of.program_is) in
     let named = c.in_ok-lowered.ensures.names in
     let head : string_bytes c.in_ok-text.text ≡ assembly_text functions image = c.in_ok-text.ensures ∙ ap (λ names. assembly_text names image) named in
     let wrote = c.in_ok-push_report.ensures x c.go.ensures.ran.shows in
     let slice = c.as_slice.result.now in
-    let on = c.requires.program in
     record {
       image = image;
-      lowers = subst (λ (q : SourceProgram). Lowers rv_kind image q) on c.in_ok-lowered.ensures.lowers;
-      busy = subst (λ (q : SourceProgram). NeverIdles rv_kind image q) on c.in_ok-lowered.ensures.busy;
-      rows = subst (λ (q : SourceProgram). HasRows rv_kind image q) on c.in_ok-lowered.ensures.rows;
-      sound = subst (λ names. IsSound rv_kind IsInstr names image) named c.in_ok-lowered.ensures.sound;
+      of = record {
+        lowers = c.in_ok-lowered.ensures.lowers;
+        busy = c.in_ok-lowered.ensures.busy;
+        rows = c.in_ok-lowered.ensures.rows;
+        sound = subst (λ names. IsSound rv_kind IsInstr names image) named c.in_ok-lowered.ensures.sound;
+      };
       whole = wrote ∙ ap (λ h. h ++ run_report r.program (map (λ (g : Global). g.name) slice) (length r.plan.entries) x r.machine.sources r.machine.events) head
           ∙ ap (λ gs. assembly_text functions image ++ run_report r.program (map (λ (g : Global). g.name) gs) (length r.plan.entries) x r.machine.sources r.machine.events) whole
-          ∙ ap (λ t. assembly_text functions image ++ t) (gone globals r image p plan of c.go.ensures.ran)
-          ∙ ap (λ (q : SourceProgram). assembly_text functions image ++ report_of globals image q plan) on;
+          ∙ ap (λ t. assembly_text functions image ++ t) (gone r image p plan of c.go.ensures.ran);
     }

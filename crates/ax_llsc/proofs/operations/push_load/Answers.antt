@@ -7,7 +7,8 @@ use Rattle.ax_rv.specs.declared.instructions.RvInstr.TheVariants.{Load}
 use Rattle.ax_emit_rv.specs.Code.{load_form}
 use Rattle.ax_emit_rv.proofs.Emitting.{both, both_silent}
 use Rattle.ax_expand.specs.Standing.{silently}
-use Rattle.ax_llsc.specs.Codes.{before_load, behind_load, clear, fences}
+use Rattle.ax_llsc.specs.Loops.{clear}
+use Rattle.ax_llsc.specs.Codes.{before_load, behind_load, fences}
 use Rattle.ax_llsc.proofs.operations.push_load.Goals as goal
 
 pub returns : goal.returns

@@ -4,7 +4,8 @@ use Rattle.ax_rv.specs.declared.instructions.RvInstr.{RvInstr}
 use Rattle.ax_rv.specs.declared.instructions.RvInstr.TheVariants.{Amo}
 use Rattle.ax_emit_rv.proofs.Emitting.{both}
 use Rattle.ax_expand.specs.Standing.{silently}
-use Rattle.ax_llsc.specs.Codes.{amo_of, clear, ending_of, operand_of, prepare, size_of}
+use Rattle.ax_llsc.specs.Loops.{clear, size_of}
+use Rattle.ax_llsc.specs.Codes.{amo_of, ending_of, operand_of, prepare}
 use Rattle.ax_llsc.proofs.operations.push_update.Goals as goal
 
 pub returns : goal.returns

@@ -11,7 +11,7 @@ use Rattle.ax_emit.specs.Sites.{ranges_from}
 use Rattle.ax_emit_rv.specs.Code.{line_code, line_size}
 use Rattle.ax_emit_rv.specs.Emitters.{slot_of}
 use Rattle.ax_image_rv.specs.Image.{frame_depth, frame_size}
-use Rattle.ax_inline_rv.specs.Inline.{inline_expansions}
+use Rattle.ax_direct_rv.specs.Direct.{direct_expansions}
 use Rattle.ax_selected.specs.Registers.{key}
 use Rattle.ax_selected.specs.Selected.{selected}
 use Rattle.ax_lower.specs.Entries.{entries_at}
@@ -31,8 +31,8 @@ returns c =
     let labels : ℕ → ℕ = behind_in c.in_ok-labels.labels in
     let lines : c.as_slice-lines.result.now ≡ (selected program).lines = c.as_slice-lines.ensures ∙ ap (λ m. m.lines) c.requires.middle in
     let functions : c.as_slice-functions.result.now ≡ program.source.functions = c.as_slice-functions.ensures ∙ ap (λ m. m.functions) c.module.ensures in
-    let size : Target → Line Virtual → ℕ = λ t. line_size slot_of frame_depth labels (inline_expansions t) in
-    let code : Target → (ℕ → ℕ) → ℕ → Line Virtual → List _ = λ t. line_code slot_of frame_depth labels (inline_expansions t) in
+    let size : Target → Line Virtual → ℕ = λ t. line_size slot_of frame_depth labels (direct_expansions t) in
+    let code : Target → (ℕ → ℕ) → ℕ → Line Virtual → List _ = λ t. line_code slot_of frame_depth labels (direct_expansions t) in
     let t = c.target.result in
     image_is program c.places_agree.ensures labels c.in_ok-emitted.emitted.places.items _ (record {
       labels_are = λ d n. (c.in_ok-labels.ensures key n ∙ ap (λ (ls : List (Line Virtual)). behind_label key ls n 0) lines) d;

@@ -1,5 +1,5 @@
 use Rattle.std.proofs.Common.{◌≡◌, All, length, List, ℕ, refl, sym, ap, ◌∙◌, subst, arith}
-use Rattle.ax_store.specs.Regions.{IsFrameSize}
+use Rattle.ax_map.specs.Map.{IsFrameSize}
 use Rattle.ax_agree.specs.Lowers.{first_byte, region_end}
 use Rattle.ax_run.specs.Start.{cpus_from, frames_for, storage_with}
 use Rattle.ax_run.proofs.Starting.{cpus_length, frames_fit, frames_length, started, zeros}

@@ -1,5 +1,5 @@
 use Rattle.std.proofs.Common.{sym, ap, ◌∙◌, subst}
-use Rattle.ax_store.specs.Regions.{IsGlobalsEnd}
+use Rattle.ax_map.specs.Map.{IsGlobalsEnd}
 use Rattle.ax_store.specs.Storage.{started}
 use Rattle.ax_run.proofs.Elements.{region_fits}
 use Rattle.ax_run.proofs.start.store.Goals as goal

@@ -1,5 +1,5 @@
 use Rattle.std.proofs.Common.{All}
-use Rattle.ax_store.specs.Regions.{IsFrameSize}
+use Rattle.ax_map.specs.Map.{IsFrameSize}
 use Rattle.calls_machine.proofs.storage.frames_of.Given as goal
 
 abbrev pub invariant-loop-word : goal.invariant-loop-word

@@ -1,7 +1,8 @@
 use Rattle.std.proofs.Common.{◌≡◌, ◌++◌, drop}
 use Rattle.std.specs.Prelude.{All}
 use Rattle.ax_layout.specs.LayoutState.{IsInReach}
-use Rattle.ax_layout.specs.Layout.{spans_after, end_after, globals_start}
+use Rattle.ax_map.specs.Map.{globals_start}
+use Rattle.ax_layout.specs.Layout.{spans_after, end_after}
 use Rattle.ax_layout.proofs.layout.Layout.of.Given as goal
 
 abbrev pub invariant-loop-global : goal.invariant-loop-global

@@ -1,0 +1,3 @@
+pub mod Words
+pub mod Sites
+pub mod Expanding

@@ -1,5 +1,0 @@
-use Rattle.ax_marks_rv.proofs.Whole.{images_have_rows}
-use Rattle.ax_marks_rv.proofs.laws.inline_images_have_rows.Goals as goal
-
-pub returns : goal.returns
-returns c = images_have_rows (record { rows = c.inline_code_expands.ensures.rows; formed = c.selected_code_is_formed.ensures })
