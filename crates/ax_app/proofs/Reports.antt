@@ -1,5 +1,5 @@
 -- Parts of a report, line by line.
-use Rattle.std.proofs.Common.{◌≡◌, ℕ, zero, suc, ◌+◌, ◌-◌, ◌<◌, ◌≤◌, false, List, [], ◌∷◌, ◌++◌, length, map, refl, sym, ap, ◌∙◌, subst, arith, append_assoc}
+use Rattle.std.proofs.Common.{◌≡◌, ℕ, zero, suc, ◌+◌, ◌-◌, ◌<◌, ◌≤◌, List, [], ◌∷◌, ◌++◌, length, map, refl, sym, ap, ◌∙◌, subst, arith, append_assoc}
 use Rattle.std.specs.Prelude.{All, drop, slice_get, slice_index_or, Some, Result, Ok, Err, OnOk}
 use Rattle.std.proofs.lemmas.List.{get_or-map, length-map}
 use Rattle.std.proofs.lemmas.Option.{slice_get-get_or}
@@ -13,9 +13,9 @@ use Rattle.ax_layout.specs.Layout.{CanBeLaidOut, LayoutState, count_in, layout_o
 use Rattle.ax_layout.specs.Regions.{AreThoseOfTheModule, InLayouts, IsThatOf}
 use Rattle.ax_source_run.specs.SourceState.{SourceProgram}
 use Rattle.ax_sched.specs.declared.plan.Plan.{Plan}
-use Rattle.ax_sched.specs.Events.{events_of}
+use Rattle.ax_run.specs.Plans.{plan_events}
 use Rattle.ax_agree.specs.Agree.{native_entries}
-use Rattle.ax_agree.specs.Lowers.{explanation, machine_run}
+use Rattle.ax_agree.specs.Lowers.{machine_run}
 use Rattle.ax_print.specs.Report.{processor_line, lock_line}
 use Rattle.ax_run.specs.Run.{RunState, IsOf, HasRun}
 use Rattle.ax_app.specs.Serve.{report_of}
@@ -88,10 +88,10 @@ on_ok (Err e) P Q f h = h
 
 -- ---- a run's report once the run has gone
 pub gone : (r : RunState) (image : Image RvInstr) (program : SourceProgram) (plan : Plan) → IsOf image program plan r → HasRun r
-    → run_report r.program (map (λ g. g.name) r.program.source.globals) (length r.plan.entries) (machine_run rv_kind r.machine.image r.program r.plan.entries (events_of r.program.target r.plan)) r.machine.sources r.machine.events ≡ report_of program image plan
+    → run_report r.program (map (λ g. g.name) r.program.source.globals) (length r.plan.entries) (machine_run rv_kind r.machine.image r.program r.plan.entries (plan_events rv_kind r.machine.image r.program r.plan)) r.machine.sources r.machine.events ≡ report_of program image plan
 gone r image program plan of ran =
     let globals = map (λ (g : Global). g.name) r.program.source.globals in
-    let events = events_of r.program.target r.plan in
+    let events = plan_events rv_kind r.machine.image r.program r.plan in
     let m = machine_run rv_kind r.machine.image r.program r.plan.entries events in
     ap (λ es. run_report r.program globals (length r.plan.entries) m r.machine.sources es) ran.machine_schedule
     ∙ ap (λ es. run_report r.program globals (length r.plan.entries) m es events) ran.source_schedule

@@ -13,7 +13,6 @@ use Rattle.ax_read.specs.Derivation.{Derives, IsReadFault}
 use Rattle.ax_layout.specs.Layout.{layout_of}
 use Rattle.ax_source_run.specs.SourceState.{SourceProgram}
 use Rattle.ax_sched.specs.declared.plan.Plan.{Plan}
-use Rattle.ax_sched.specs.Events.{events_of}
 use Rattle.ax_sched.specs.Schedule.{IsFirstBad, IsSchedule}
 use Rattle.ax_agree.specs.Lowers.{Lowers, NeverIdles, machine_run, explanation}
 use Rattle.ax_agree.specs.Rows.{HasRows}
@@ -21,6 +20,7 @@ use Rattle.ax_agree.specs.Sound.{IsSound}
 use Rattle.ax_rv.specs.Instructions.{IsInstr, rv_kind}
 use Rattle.ax_direct_rv.specs.Direct.{is_built}
 use Rattle.ax_print.specs.Assembly.{assembly_text}
+use Rattle.ax_run.specs.Plans.{plan_events}
 use Rattle.ax_app.specs.declared.done.Done.{Done}
 use Rattle.ax_app.specs.declared.verdict.Part.{Part}
 use Rattle.ax_app.specs.declared.verdict.Part.TheVariants.{Module, Schedule}
@@ -40,7 +40,7 @@ on target m = record { source = m; layout = layout_of m; target = target }
 pub record IsImageOf (program : SourceProgram) (image : Image RvInstr) : Type 0 where
   -- for all lists of entries and of events, the machine run and the source run under its explanation agree
   pub lowers : Lowers rv_kind image program
-  -- no processor makes 4,096 Steps in a row without an Act
+  -- no processor makes 4,096 Steps in a row of which none is an Act or a caused failure
   pub busy : NeverIdles rv_kind image program
   -- each instruction's code has its row of the mapping table
   pub rows : HasRows rv_kind image program
@@ -59,7 +59,7 @@ pub record IsAssemblyOf (program : SourceProgram) (text : List ℕ) : Type 0 whe
 -- the report of an image's run under a plan
 abbrev pub report_of : SourceProgram → Image RvInstr → Plan → List ℕ
 report_of program image plan =
-    let events = events_of program.target plan in
+    let events = plan_events rv_kind image program plan in
     run_report program (map (λ g. g.name) program.source.globals) (length plan.entries) (machine_run rv_kind image program plan.entries events) (explanation rv_kind image program plan.entries events) events
 
 -- a text of a module's run: the assembly of an image of it, and then the report of that image's run under the plan

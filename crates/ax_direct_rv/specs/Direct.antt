@@ -41,7 +41,7 @@ direct_expansions target o width order weak = expansion_of target (Atomic o widt
 
 -- so many idle steps in a row at most
 abbrev pub direct_steps : ℕ
-direct_steps = 30
+direct_steps = 48
 
 -- EACH ACCESS AND EACH ATOMIC OPERATION of such a module has an expansion
 abbrev pub DirectModuleIsExpanded : SourceProgram → Type 0

@@ -1,4 +1,5 @@
-//! What holds of modules for RV64 whose atomic instructions are single instructions or pair loops.
+//! What holds of modules for RV64 whose atomic instructions are single instructions or loops of
+//! a linked load and a pair store.
 
 ghost use Rattle.ax_source_run.specs.SourceState.{SourceProgram};
 ghost use Rattle.ax_mid.specs.declared.registers.Virtual.{Virtual};
@@ -21,8 +22,8 @@ impl ProgramOnBytes for Meant {
 }
 
 /// Of an accepted module for RV64 each plain access and each atomic operation has an expansion that
-/// meets its contract, where for each atomic instruction the decision table has the way Inline or
-/// PairLoop.
+/// meets its contract, where for each atomic instruction the decision table has the way Inline,
+/// PairLoop or Masked.
 pub fn direct_modules_are_expanded()
     ensures { DirectModulesAreExpanded }
 {

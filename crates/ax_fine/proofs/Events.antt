@@ -35,7 +35,7 @@ use Rattle.ax_mid.specs.Spots.{Spot, Own, Element, Nowhere, is_own, spot_of}
 use Rattle.ax_expand.specs.Shared.{Shared, shared_wrote, with_pending}
 use Rattle.ax_fine.specs.Fine.{Fit, Program, asks, asks_by, asks_if, chosen_by, chosen_if, did_atomic, fine, is_quiet, is_some, plain_by, settle}
 use Rattle.ax_fine.specs.Near.{AreLabelsSilent, ArePlaced, AreStores, CanAct, FineRunsFit, FineRunsInStep, Framed, HasRoom, IsDeed, IsMeant, IsNear, IsSmall, IsSmallInst, Near, ResultsFit, Spells, address_of, bare, marked, on_bytes, one_step}
-use Rattle.ax_fine.specs.OnBytes.{Asks, IsObject, looks, misses, results_with}
+use Rattle.ax_fine.specs.OnBytes.{AreWords, Asks, IsObject, looks, misses, results_with}
 use Rattle.ax_fine.proofs.Acts.{IsDone, IsElement, element_is, line_acts, own_first, own_store, private_chosen}
 use Rattle.ax_fine.proofs.Ahead as ahead
 use Rattle.ax_fine.proofs.Small.{Below, argument_small, put_all_below, put_none, read_below, results_small, step_small, step_status}
@@ -494,6 +494,7 @@ module _ {R : Type 0} (x : Framed R) (most : ℕ) (inside : ℕ → Bool) (place
         shared = subst (λ (c : ℕ). c + n ≤ 2 ^ 24) (sym el.address) (subst (λ (k : ℕ). address_of el.global i + k ≤ 2 ^ 24) (sym el.bytes) (below x.code.globals inside placed g i el.global el.there el.within));
         inside = ap (λ (f : ℕ → Bool). all_inside f q n) near.spells.mapped
             ∙ (ap (λ (c : ℕ). all_inside inside c n) el.address ∙ (ap (all_inside inside (address_of el.global i)) el.bytes ∙ placed.mapped g i el.global el.there el.within));
+        words = subst AreWords (sym near.spells.mapped) placed.words;
         small = near.spells.small;
       }
 

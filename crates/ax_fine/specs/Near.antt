@@ -20,7 +20,7 @@ use Rattle.ax_target.specs.declared.target.Target.{Target}
 use Rattle.ax_expand.specs.Bytes.{bytes_world}
 use Rattle.ax_expand.specs.Shared.{Shared}
 use Rattle.ax_fine.specs.Fine.{Fit, Program, fine, is_label, settle}
-use Rattle.ax_fine.specs.OnBytes.{atomic_doing, load_doing, store_doing}
+use Rattle.ax_fine.specs.OnBytes.{AreWords, atomic_doing, load_doing, store_doing}
 
 -- what an operation leaves fits its width: a law of ax_ops
 abbrev pub ResultsFit : Type 0
@@ -63,6 +63,7 @@ pub record ArePlaced (globals : List MidGlobal) (inside : ℕ → Bool) : Type 0
   pub mapped : (g i : ℕ) (x : MidGlobal) → slice_get globals g ≡ Some x → i < x.count → all_inside inside (address_of x i) x.bytes ≡ true
   pub aligned : (g i : ℕ) (x : MidGlobal) → slice_get globals g ≡ Some x → i < x.count → x.native ≡ true → address_of x i % x.bytes ≡ 0
   pub apart : (g h : ℕ) (x y : MidGlobal) → slice_get globals g ≡ Some x → slice_get globals h ≡ Some y → g ≢ h → (x.address + x.count * x.bytes ≤ y.address) ⊎ (y.address + y.count * y.bytes ≤ x.address)
+  pub words : AreWords inside
 
 -- the bytes of each element spell its number
 abbrev pub AreSpelled : List MidGlobal → (ℕ → ℕ) → (ℕ → ℕ → ℕ) → Type 0

@@ -1,5 +1,5 @@
 -- What atomic operations and plain accesses do to the bytes that all processors share, and to the stores that wait.
-use Rattle.std.specs.Prelude.{◌≡◌, ℕ, ◌+◌, ◌*◌, ◌≤◌, ◌<◌, ◌%◌, ◌^◌, Bool, true, false, ◌&&◌, nat_eq, if◌then◌else◌, List, [], ◌∷◌, Option, Some, None, slice_index_or}
+use Rattle.std.specs.Prelude.{◌≡◌, ℕ, ◌+◌, ◌-◌, ◌*◌, ◌≤◌, ◌<◌, ◌%◌, ◌^◌, Bool, true, false, ◌&&◌, nat_eq, if◌then◌else◌, List, [], ◌∷◌, Option, Some, None, slice_index_or}
 use Rattle.ax_words.specs.declared.mark.Op.{Op}
 use Rattle.ax_words.specs.declared.mark.Op.TheVariants as op
 use Rattle.ax_words.specs.declared.order.Order.{Order}
@@ -46,11 +46,16 @@ met_by Drains buffered p a bytes operation w = record {
 abbrev pub met_at : Target → Bool → ℕ → ℕ → ℕ → ObjectOperation → Shared → Met
 met_at target waits p a bytes operation w = met_by (manner_of_native operation waits) (is_buffered target) p a bytes operation w
 
+-- below the frames what may be used begins and ends at words of 4 bytes
+abbrev pub AreWords : (ℕ → Bool) → Type 0
+AreWords inside = (a : ℕ) → a < 2 ^ 24 → inside a ≡ true → all_inside inside (a - a % 4) 4 ≡ true
+
 -- an object below the frames, at a multiple of its size
 pub record IsObject (a bytes : ℕ) (w : Shared) : Type 0 where
   pub aligned : a % bytes ≡ 0
   pub shared : a + bytes ≤ 2 ^ 24
   pub inside : all_inside w.inside a bytes ≡ true
+  pub words : AreWords w.inside
   pub small : (b : ℕ) → w.mem b < 2 ^ 8
 
 abbrev pub results_with : List ℕ → Shared → Result Shared

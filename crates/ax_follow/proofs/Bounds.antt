@@ -72,7 +72,7 @@ saved_bytes : (b : Bool) (p : ℕ) (s : Saved) (place : ℕ) (n : Noted) → Are
 saved_bytes b p (Register to) place n h = h
 saved_bytes b p (Stack pointer a) place n h = store_bytes b p _ n h
 
-effect_bytes : (b : Bool) (p : ℕ) (e : Effect) (c : Processor) (n : Noted) → AreBytes n.storage.mem → AreBytes (effected b p e c n).noted.storage.mem
+pub effect_bytes : (b : Bool) (p : ℕ) (e : Effect) (c : Processor) (n : Noted) → AreBytes n.storage.mem → AreBytes (effected b p e c n).noted.storage.mem
 effect_bytes b p (Set to number) c n h = h
 effect_bytes b p (Compare left right) c n h = h
 effect_bytes b p (Load to a bytes rest ends_half) c n h = h

@@ -31,8 +31,8 @@ use Rattle.ax_source_run.specs.SourceState.{SourceProgram}
 use Rattle.ax_image_rv.specs.Image.{frame_depth, rv_program}
 use Rattle.ax_emit.specs.Images.{drafted}
 use Rattle.ax_idle_rv.proofs.Fits.{Fits, LineCoded, coded_less, drafted_both, fits_both, fits_less, fits_none, fits_silent, one_act}
-use Rattle.ax_idle_rv.proofs.Ranks.{is_straight, rank_of}
-use Rattle.ax_idle_rv.proofs.Reach.{CalmBy, width}
+use Rattle.ax_idle_rv.proofs.Ranks.{is_straight, piece_rank, rank_of}
+use Rattle.ax_idle_rv.proofs.Reach.{CalmBy, most_width, width}
 
 -- ---- lists of instructions
 abbrev pub Straights : List RvInstr → Type 0
@@ -219,7 +219,7 @@ suits t (mid.Atomic o w order weak address args results) rest h calm other =
     (loud t first.0, omega (arith, a, c), omega (arith, b, d))
 suits t _ rest h calm other = tt
 
-module _ (program : SourceProgram) (expansions : Op → Width → Order → Bool → Expansion) (expands : (o : Op) (w : Width) (order : Order) (weak : Bool) (start : ℕ) → LineCoded false 16 ((expansions o w order weak).piece start)) where
+module _ (program : SourceProgram) (expansions : Op → Width → Order → Bool → Expansion) (expands : (o : Op) (w : Width) (order : Order) (weak : Bool) (start : ℕ) → LineCoded false piece_rank ((expansions o w order weak).piece start)) where
   pub inst_coded : (quiet : Bool) (i : MidInst Virtual) (places : ℕ → ℕ) (start : ℕ) → Suits quiet i → LineCoded quiet (width i) (inst_code (rv_program program) expansions i places start)
   unfolding piece_of
   inst_coded quiet (mid.Const to n) places start h = coded_less quiet (1 + 3) 6 _ (omega arith) (computed_coded quiet 1 to (Li 7 n ∷ []) (record { all = (refl, tt); few = omega arith }))
@@ -261,9 +261,9 @@ module _ (program : SourceProgram) (expansions : Op → Width → Order → Bool
       let qs : List (ℕ × ℕ) = homes_from key first_result results in
       let before : List RvInstr = gets_all rv_table zs in
       let piece : List (RvInstr × Tag) = (expansions o w order weak).piece (start + length before) in
-      let own : LineCoded quiet 16 piece = subst (λ (b : Bool). LineCoded b 16 piece) (sym h.0) (expands o w order weak (start + length before)) in
-      coded_less quiet (15 + 16 + 9) 40 _ (omega arith)
-      (wrapped quiet 15 16 9 before (puts_all rv_table qs) piece (short_less (3 * length zs) 15 before (omega (arith, taken, few_args)) (gets_short zs)) own
+      let own : LineCoded quiet piece_rank piece = subst (λ (b : Bool). LineCoded b piece_rank piece) (sym h.0) (expands o w order weak (start + length before)) in
+      coded_less quiet (15 + piece_rank + 9) most_width _ (omega arith)
+      (wrapped quiet 15 piece_rank 9 before (puts_all rv_table qs) piece (short_less (3 * length zs) 15 before (omega (arith, taken, few_args)) (gets_short zs)) own
       (short_less (3 * length qs) 9 (puts_all rv_table qs) (omega (arith, given, few_results)) (puts_short qs)))
   inst_coded quiet (mid.Call routine role args results) places start h = absurd h
   inst_coded quiet (mid.Out from) places start h = coded_less quiet (3 + 1 + 0) 20 _ (omega arith) (ended_coded quiet 3 (get_one key 10 from) Ecall (inl h) (gets_short ((10, key from) ∷ [])))

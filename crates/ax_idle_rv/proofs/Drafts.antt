@@ -29,15 +29,15 @@ use Rattle.ax_source_run.specs.SourceState.{SourceProgram}
 use Rattle.ax_image_rv.specs.Image.{rv_program}
 use Rattle.ax_idle_rv.proofs.Codes.{IsOther, gets_short, inst_coded, silently_code, silently_length, suits}
 use Rattle.ax_idle_rv.proofs.Fits.{Agrees, LineCoded, agrees_behind, behind_all, drafted_both, drafted_length}
-use Rattle.ax_idle_rv.proofs.Ranks.{Fine, IsInner, behind, inner_rank, rank_of}
-use Rattle.ax_idle_rv.proofs.Reach.{Calm, CalmBy, most_reach, reach, reach_by, width}
+use Rattle.ax_idle_rv.proofs.Ranks.{Fine, IsInner, behind, inner_rank, piece_rank, rank_of}
+use Rattle.ax_idle_rv.proofs.Reach.{Calm, CalmBy, most_reach, most_width, reach, reach_by, width}
 
 -- ---- lines
 reach_other : (i : MidInst Virtual) (rest : ℕ) → IsOther i → reach_by true i rest ≡ width i + rest
 reach_other (mid.Branch test a b) rest h = absurd h
 reach_other _ rest h = refl
 
-width_few : (i : MidInst Virtual) → width i ≤ 40
+width_few : (i : MidInst Virtual) → width i ≤ most_width
 width_few (mid.Const to n) = omega arith
 width_few (mid.Copy to from) = omega arith
 width_few (mid.Label n) = omega arith
@@ -64,7 +64,7 @@ label_silent : (t : Tag) (n : ℕ) → IsTrue (is_shaped {R = Virtual} t (mid.La
 unfolding is_shaped
 label_silent t n h = silent_of t h
 
-module _ (program : SourceProgram) (expansions : Op → Width → Order → Bool → Expansion) (expands : (o : Op) (w : Width) (order : Order) (weak : Bool) (start : ℕ) → LineCoded false 16 ((expansions o w order weak).piece start))
+module _ (program : SourceProgram) (expansions : Op → Width → Order → Bool → Expansion) (expands : (o : Op) (w : Width) (order : Order) (weak : Bool) (start : ℕ) → LineCoded false piece_rank ((expansions o w order weak).piece start))
     (alike : (o : Op) (w : Width) (order : Order) (weak : Bool) (s t : ℕ) → (expansions o w order weak).piece s ≡ (expansions o w order weak).piece t) (places rank : ℕ → ℕ) where
   abbrev code : MidInst Virtual → ℕ → List (RvInstr × Tag)
   code i at = inst_code (rv_program program) expansions i places at

@@ -1,24 +1,17 @@
 -- What the steps of others, drains and drops leave of a last linked load; and that memory holds bytes.
-use Rattle.std.proofs.Common.{◌≡◌, ℕ, ◌-◌, ◌*◌, ◌/◌, ◌%◌, ◌^◌, ◌<◌, Bool, true, false, List, [], ◌∷◌, Option, Some, None, refl, sym, ap, ◌∙◌, subst, inl, inr, ⊎_elim, arith}
-use Rattle.std.specs.Prelude.{◌⊎◌, ◌&&◌, if◌then◌else◌, nat_eq}
+use Rattle.std.proofs.Common.{◌≡◌, ℕ, Bool, true, false, List, [], ◌∷◌, Option, Some, None, refl, sym, ap, ◌∙◌, subst, inl, inr, ⊎_elim}
+use Rattle.std.specs.Prelude.{◌⊎◌, if◌then◌else◌, nat_eq}
 use Rattle.std.proofs.lemmas.Bool.{cases_eq, eq-eqb}
-use Rattle.ax_map.specs.Map.{covers}
 use Rattle.ax_store.specs.declared.entry.Entry.{Entry}
 use Rattle.ax_store.specs.declared.entry.Reservation.{Reservation}
-use Rattle.ax_store.specs.Bytes.{byte_of, put}
 use Rattle.ax_store.specs.Reservations.{left_of}
-use Rattle.ax_store.specs.Storage.{entry_of, may_pair}
-use Rattle.ax_isa.specs.declared.effects.Effect.{Effect}
-use Rattle.ax_isa.specs.declared.effects.Effect.TheVariants.{Set, Compare, Load, Store, Locked, Fence, Link, LinkHalf, PairStore, Jump, CallTo, Return, Output, Trap, Nop}
-use Rattle.ax_isa.specs.declared.effects.Saved.{Saved}
-use Rattle.ax_isa.specs.declared.effects.Saved.TheVariants.{Register, Stack}
-use Rattle.ax_isa.specs.Past.{Noted, drain, drain_first, drain_list, drop_link, lost_by, store, write}
+use Rattle.ax_isa.specs.Past.{Noted, drain, drain_first, drain_list, drop_link, lost_by}
 use Rattle.ax_isa.specs.Processor.{Processor}
 use Rattle.ax_isa.specs.Run.{Setting, at_code, step, step_at}
-use Rattle.ax_isa.specs.Steps.{effected, paired, possible, replace, saved_place, stuck}
+use Rattle.ax_isa.specs.Steps.{effected, possible, stuck}
 use Rattle.ax_isa.specs.Tells.{told, told_stuck}
 use Rattle.ax_follow.specs.Bounds.{AreBytes}
-use Rattle.ax_follow.proofs.Bounds.{drain_bytes}
+use Rattle.ax_follow.proofs.Bounds.{drain_bytes, effect_bytes}
 use Rattle.ax_follow.proofs.Quiet.{by_drop, drain_quiet, step_quiet}
 
 -- it stays the last one, and its reservation stands, or is noted as lost
@@ -64,52 +57,6 @@ step_remembered x p q c es n ne =
     remembers_both q n (drain_list es p n) (step x p c (drain_list es p n)).noted (drains_remembered es p q n) (record { last = k.last; lost = k.lost })
 
 -- ---- bytes
-byte_small : (v i : ℕ) → byte_of v i < 2 ^ 8
-byte_small v i = let x = v / 2 ^ (8 * i) in (let h : x % 2 ^ 8 < 2 ^ 8 = omega arith in h)
-
-either_small : (t : Bool) (a b : ℕ) → a < 2 ^ 8 → b < 2 ^ 8 → (if t then a else b) < 2 ^ 8
-either_small true a b h g = h
-either_small false a b h g = g
-
-put_bytes : (inside : ℕ → Bool) (a n v : ℕ) (f : ℕ → ℕ) → AreBytes f → AreBytes (put inside a n v f)
-put_bytes inside a n v f h b = either_small (covers a n b && inside b) (byte_of v (b - a)) (f b) (byte_small v (b - a)) (h b)
-
-write_bytes : (p : ℕ) (e : Entry) (n : Noted) → AreBytes n.storage.mem → AreBytes (write p e n).storage.mem
-write_bytes p e n h = put_bytes n.storage.inside e.address e.bytes e.value n.storage.mem h
-
-store_bytes : (b : Bool) (p : ℕ) (e : Entry) (n : Noted) → AreBytes n.storage.mem → AreBytes (store b p e n).storage.mem
-store_bytes true p e n h = h
-store_bytes false p e n h = write_bytes p e n h
-
-replace_bytes : (p a bytes : ℕ) (v : Option ℕ) (n : Noted) → AreBytes n.storage.mem → AreBytes (replace p a bytes v n).storage.mem
-replace_bytes p a bytes None n h = h
-replace_bytes p a bytes (Some v) n h = write_bytes p (entry_of a bytes v) n h
-
-paired_bytes : (t : Bool) (p to a bytes v : ℕ) (c : Processor) (n : Noted) → AreBytes n.storage.mem → AreBytes (paired t p to a bytes v c n).noted.storage.mem
-paired_bytes true p to a bytes v c n h = write_bytes p (entry_of a bytes v) n h
-paired_bytes false p to a bytes v c n h = h
-
-saved_bytes : (b : Bool) (p : ℕ) (s : Saved) (place : ℕ) (n : Noted) → AreBytes n.storage.mem → AreBytes (saved_place b p s place n).storage.mem
-saved_bytes b p (Register to) place n h = h
-saved_bytes b p (Stack pointer a) place n h = store_bytes b p (entry_of a 8 place) n h
-
-effect_bytes : (b : Bool) (p : ℕ) (e : Effect) (c : Processor) (n : Noted) → AreBytes n.storage.mem → AreBytes (effected b p e c n).noted.storage.mem
-effect_bytes b p (Set to number) c n h = h
-effect_bytes b p (Compare left right) c n h = h
-effect_bytes b p (Load to a bytes rest ends_half) c n h = h
-effect_bytes b p (Store a bytes number) c n h = store_bytes b p (entry_of a bytes number) n h
-effect_bytes b p (Locked to high a bytes rest change) c n h = replace_bytes p a bytes _ n h
-effect_bytes b p Fence c n h = h
-effect_bytes b p (Link to a bytes rest) c n h = h
-effect_bytes b p (LinkHalf to a) c n h = h
-effect_bytes b p (PairStore to a bytes number) c n h = paired_bytes (may_pair p a bytes n.storage) p to a bytes number c n h
-effect_bytes b p (Jump place) c n h = h
-effect_bytes b p (CallTo place saved) c n h = saved_bytes b p saved _ n h
-effect_bytes b p (Return back) c n h = h
-effect_bytes b p (Output number) c n h = h
-effect_bytes b p Trap c n h = h
-effect_bytes b p Nop c n h = h
-
 pub drains_bytes : (es : List Entry) (p : ℕ) (n : Noted) → AreBytes n.storage.mem → AreBytes (drain_list es p n).storage.mem
 drains_bytes [] p n h = h
 drains_bytes (e ∷ es) p n h = drains_bytes es p (drain p n) (drain_bytes p n h)

@@ -7,6 +7,7 @@ pub mod Reach
 pub mod Fits
 pub mod Codes
 pub mod Loops
+pub mod Masked
 pub mod Expansions
 pub mod Drafts
 pub mod Pieces

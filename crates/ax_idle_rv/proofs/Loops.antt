@@ -33,11 +33,12 @@ use Rattle.ax_rv.specs.Instructions.{effect_of, size_rest}
 use Rattle.ax_rv.specs.Skeleton.{size_bytes}
 use Rattle.ax_expand.specs.Standing.{silently}
 use Rattle.ax_emit.specs.Images.{Drafted, drafted}
-use Rattle.ax_llsc.specs.Loops.{clear, comparand, exchange_code, nand_code, pair_mark, size_of, store_ending}
+use Rattle.ax_llsc.specs.Loops.{clear, comparand, exchange_code, nand_code, pair_mark, size_of}
+use Rattle.ax_mask.specs.Pairs.{store_ending}
 use Rattle.ax_idle_rv.proofs.Codes.{Short, silently_code}
 use Rattle.ax_idle_rv.proofs.Fits.{Agrees, Fits, LineCoded, fits_silent}
 use Rattle.ax_idle_rv.proofs.Poised.{Poised, PoisedBy, is_pair, linked_tracks}
-use Rattle.ax_idle_rv.proofs.Ranks.{Fine, Links, is_straight, most_rank, rank_of}
+use Rattle.ax_idle_rv.proofs.Ranks.{Fine, Links, is_straight, linked_rank, most_rank, pair_rank, piece_rank, rank_of}
 
 pub clear_short : (r : ℕ) (w : Width) → Short 2 (clear r w)
 clear_short r W32 = record { all = (refl, (refl, tt)); few = omega arith }
@@ -64,11 +65,11 @@ comparand_straight _ = refl
 abbrev compared_code : Bool → Size → Ending → RvInstr → ℤ → List (RvInstr × Tag)
 compared_code weak size ending i d = (i, Silent) ∷ (Branch condition.NotEqual 15 5 d, Silent) ∷ (StoreConditional size ending 16 12 10, pair_mark weak) ∷ []
 
-marked_pair : (weak : Bool) → is_pair (pair_mark weak) ≡ true
+pub marked_pair : (weak : Bool) → is_pair (pair_mark weak) ≡ true
 marked_pair true = refl
 marked_pair false = refl
 
-equal : (a b : ℕ) → nat_eq a b ≡ true → a ≡ b
+pub equal : (a b : ℕ) → nat_eq a b ≡ true → a ≡ b
 equal a b h = grind (arith, nat_tests, h)
 
 module _ (weak : Bool) (size : Size) (ending : Ending) (i : RvInstr) (d : ℤ) (m : ℕ) (tail : List (Drafted RvInstr)) (h : Compares size i) where
@@ -91,19 +92,19 @@ module _ (weak : Bool) (size : Size) (ending : Ending) (i : RvInstr) (d : ℤ) (
     abbrev linked : Noted
     linked = linked_load p (c.regs 10) (size_bytes size) n
 
-    poised : found ≡ h.value (c.regs 11) → Poised 6 (code (compared_code weak size ending i d)) p after linked
+    poised : found ≡ h.value (c.regs 11) → Poised pair_rank (code (compared_code weak size ending i d)) p after linked
     poised same =
         let stays : holds condition.NotEqual found (h.value (c.regs 11)) ≡ false = ap not (eq-eqb found (h.value (c.regs 11)) same) in
         let there : Processor = go_with 5 (h.value (c.regs 11)) after in
-        let turn : Poised 5 (code ((Branch condition.NotEqual 15 5 d, Silent) ∷ store ∷ [])) p there linked =
-        subst (λ (b : Bool). PoisedBy (if b then effect.Jump (displaced there.place d) else effect.Nop) Silent (λ a. Poised 4 (code (store ∷ [])) p a linked) p there linked) (sym stays) (marked_pair weak, linked_tracks p (c.regs 10) (size_bytes size) n) in
-        subst (λ (e : Effect). PoisedBy e Silent (λ a. Poised 5 (code ((Branch condition.NotEqual 15 5 d, Silent) ∷ store ∷ [])) p a linked) p after linked) (sym (h.does after)) turn
+        let turn : Poised 8 (code ((Branch condition.NotEqual 15 5 d, Silent) ∷ store ∷ [])) p there linked =
+        subst (λ (b : Bool). PoisedBy (if b then effect.Jump (displaced there.place d) else effect.Nop) Silent (λ a. Poised 7 (code (store ∷ [])) p a linked) p there linked) (sym stays) (marked_pair weak, linked_tracks p (c.regs 10) (size_bytes size) n) in
+        subst (λ (e : Effect). PoisedBy e Silent (λ a. Poised 8 (code ((Branch condition.NotEqual 15 5 d, Silent) ∷ store ∷ [])) p a linked) p after linked) (sym (h.does after)) turn
 
-    linked_goes : (given_of (Linked weak 11 None) (size_bytes size) c (loaded number) ≡ An_act) ⊎ Poised 6 (code (compared_code weak size ending i d)) p after linked
+    linked_goes : (given_of (Linked weak 11 None) (size_bytes size) c (loaded number) ≡ An_act) ⊎ Poised pair_rank (code (compared_code weak size ending i d)) p after linked
     linked_goes = by (nat_eq (number % 2 ^ (8 * size_bytes size)) (c.regs 11 % 2 ^ (8 * size_bytes size))) refl
       where
         by : (b : Bool) → nat_eq (number % 2 ^ (8 * size_bytes size)) (c.regs 11 % 2 ^ (8 * size_bytes size)) ≡ b
-            → (given_of (Linked weak 11 None) (size_bytes size) c (loaded number) ≡ An_act) ⊎ Poised 6 (code (compared_code weak size ending i d)) p after linked
+            → (given_of (Linked weak 11 None) (size_bytes size) c (loaded number) ≡ An_act) ⊎ Poised pair_rank (code (compared_code weak size ending i d)) p after linked
         by false is = inl (ap (λ (r : Role). given_in r (Linked weak 11 None) (size_bytes size) c (loaded number)) outside ∙ ap (λ (b : Bool). if b then look_if weak else An_act) is)
         by true is = inr (poised (h.same (c.regs 15) number (c.regs 11) (number_small n.storage.mem bytes (c.regs 10) (size_bytes size)) (equal (number % 2 ^ (8 * size_bytes size)) (c.regs 11 % 2 ^ (8 * size_bytes size)) is)))
 
@@ -114,13 +115,13 @@ module _ (weak : Bool) (size : Size) (ending : Ending) (i : RvInstr) (d : ℤ) (
 shifted : (rank : ℕ → ℕ) (at : ℕ) (a b c d e f g : Drafted RvInstr) (ds : List (Drafted RvInstr)) → Agrees rank at (a ∷ b ∷ c ∷ d ∷ e ∷ f ∷ g ∷ ds) → Agrees rank (at + 1 + 1 + 1 + 1 + 1 + 1 + 1) ds
 shifted rank at a b c d e f g ds h k = let same : at + 1 + 1 + 1 + 1 + 1 + 1 + 1 + k ≡ at + suc (suc (suc (suc (suc (suc (suc k)))))) = omega arith in ap rank same ∙ h (suc (suc (suc (suc (suc (suc (suc k)))))))
 
-first : (rank : ℕ → ℕ) (at : ℕ) (a : Drafted RvInstr) (ds : List (Drafted RvInstr)) → Agrees rank at (a ∷ ds) → rank at ≡ rank_of (a ∷ ds)
+pub first : (rank : ℕ → ℕ) (at : ℕ) (a : Drafted RvInstr) (ds : List (Drafted RvInstr)) → Agrees rank at (a ∷ ds) → rank at ≡ rank_of (a ∷ ds)
 first rank at a ds h = let same : at ≡ at + 0 = omega arith in ap rank same ∙ h 0
 
-second : (rank : ℕ → ℕ) (at : ℕ) (a : Drafted RvInstr) (ds : List (Drafted RvInstr)) → Agrees rank at (a ∷ ds) → Agrees rank (at + 1) ds
+pub second : (rank : ℕ → ℕ) (at : ℕ) (a : Drafted RvInstr) (ds : List (Drafted RvInstr)) → Agrees rank at (a ∷ ds) → Agrees rank (at + 1) ds
 second rank at a ds h k = let same : at + 1 + k ≡ at + suc k = omega arith in ap rank same ∙ h (suc k)
 
-exchange_fits : (w : Width) (order : Order) (weak : Bool) → Fits false 16 (exchange_code w order weak)
+exchange_fits : (w : Width) (order : Order) (weak : Bool) → Fits false piece_rank (exchange_code w order weak)
 exchange_fits w order weak = record { low = λ m ds. omega arith; fine = fine weak }
   where
     clears : Fits false 2 (silently (clear 15 w))
@@ -129,7 +130,7 @@ exchange_fits w order weak = record { low = λ m ds. omega arith; fine = fine we
     compare : Fits false 1 ((comparand w, Silent) ∷ [])
     compare = fits_silent false (comparand w) (comparand_straight w)
 
-    fine : (weak : Bool) (target rank : ℕ → ℕ) (at m : ℕ) (ds : List (Drafted RvInstr)) → Agrees rank at (drafted false m (exchange_code w order weak) ++ ds) → Fine target rank (at + length (exchange_code w order weak)) ds → 16 + rank_of ds ≤ most_rank
+    fine : (weak : Bool) (target rank : ℕ → ℕ) (at m : ℕ) (ds : List (Drafted RvInstr)) → Agrees rank at (drafted false m (exchange_code w order weak) ++ ds) → Fine target rank (at + length (exchange_code w order weak)) ds → piece_rank + rank_of ds ≤ most_rank
         → Fine target rank at (drafted false m (exchange_code w order weak) ++ ds)
     fine true target rank at m ds agrees next room =
         let last : List (Drafted RvInstr) = drafted false m (silently (clear 15 w)) ++ ds in
@@ -158,7 +159,7 @@ exchange_fits w order weak = record { low = λ m ds. omega arith; fine = fine we
         clears.fine target rank (at + 1 + 1 + 1 + 1 + 1 + 1 + 1) m ds (shifted rank at _ _ _ _ _ _ _ last agrees) (subst (λ (q : ℕ). Fine target rank q ds) end next) (omega (arith, room)) in
         let tail : List (Drafted RvInstr) = drafted false m ((Branch condition.NotEqual 16 0 (negsuc 3), Silent) ∷ (Binary binary.Subtract 16 15 5, Silent) ∷ (Unary unary.IsZero 16 16, Silent) ∷ []) ++ last in
         let turn : List (Drafted RvInstr) = drafted false m ((Branch condition.NotEqual 15 5 (pos 3), Silent) ∷ (StoreConditional (size_of w) (store_ending order) 16 12 10, pair_mark false) ∷ []) ++ tail in
-        let head : rank at ≡ 7 = first rank at _ (drafted false m ((comparand w, Silent) ∷ []) ++ turn) agrees in
+        let head : rank at ≡ linked_rank = first rank at _ (drafted false m ((comparand w, Silent) ∷ []) ++ turn) agrees in
         let two : Fine target rank (at + 1 + 1) turn = (
           omega (arith, few, room),
           refl,
@@ -176,17 +177,17 @@ exchange_fits w order weak = record { low = λ m ds. omega arith; fine = fine we
           compare.fine target rank (at + 1) m turn (second rank at _ (drafted false m ((comparand w, Silent) ∷ []) ++ turn) agrees) two (omega (arith, few, room)),
         )
 
-pub exchange_coded : (w : Width) (order : Order) (weak : Bool) → LineCoded false 16 (exchange_code w order weak)
+pub exchange_coded : (w : Width) (order : Order) (weak : Bool) → LineCoded false piece_rank (exchange_code w order weak)
 exchange_coded w order weak = record { fits = exchange_fits w order weak; acts = λ loud m ds. omega arith }
 
 -- ---- nand
-nand_fits : (w : Width) (order : Order) → Fits false 16 (nand_code w order)
+nand_fits : (w : Width) (order : Order) → Fits false piece_rank (nand_code w order)
 nand_fits W32 order =
     record {
       low = λ m ds. omega arith;
       fine = λ target rank at m ds agrees fine room.
           (let end : at + length (nand_code W32 order) ≡ at + 1 + 1 + 1 + 1 + 1 + 1 + 1 = omega arith in
-          let head : rank at ≡ 7 = first rank at _ _ agrees in
+          let head : rank at ≡ linked_rank = first rank at _ _ agrees in
           let last : Fine target rank (at + 1 + 1 + 1 + 1 + 1 + 1 + 1) ds = subst (λ (q : ℕ). Fine target rank q ds) end fine in (
             omega arith,
             refl,
@@ -213,7 +214,7 @@ nand_fits _ order =
     record {
       low = λ m ds. omega arith;
       fine = λ target rank at m ds agrees fine room.
-          (let head : rank at ≡ 7 = first rank at _ _ agrees in
+          (let head : rank at ≡ linked_rank = first rank at _ _ agrees in
           let last : Fine target rank (at + 1 + 1 + 1 + 1 + 1) ds = (let end : at + 5 ≡ at + 1 + 1 + 1 + 1 + 1 = omega arith in subst (λ (q : ℕ). Fine target rank q ds) end fine) in (
             omega arith,
             refl,
@@ -222,5 +223,5 @@ nand_fits _ order =
           ));
     }
 
-pub nand_coded : (w : Width) (order : Order) → LineCoded false 16 (nand_code w order)
+pub nand_coded : (w : Width) (order : Order) → LineCoded false piece_rank (nand_code w order)
 nand_coded w order = record { fits = nand_fits w order; acts = λ loud m ds. omega arith }

@@ -43,7 +43,7 @@ use Rattle.ax_selected.specs.Pieces.{Comparison, Straight, bin_lines, comparison
 use Rattle.ax_selected.specs.Registers.{block_label, first_label, high_in, low_in, low_of, high_of, second_label, virtual}
 use Rattle.ax_selected.specs.Selected.{acting, atomic_load_lines, atomic_store_lines, blocks_lines, branch_lines, bytes_at, compared, chosen_by, exchange_lines, fence_lines, found, function_lines, functions_lines, gep_lines, guarded, halves_into, insts_lines, label_line, load_lines, lone, next_half, out_operand, piece, reach as reached, selected, silent, store_lines, straight, through, update_lines}
 use Rattle.ax_idle_rv.proofs.Ranks.{IsInner, inner_rank}
-use Rattle.ax_idle_rv.proofs.Reach.{Calm, CalmBy, most_reach, reach, reach_by, width}
+use Rattle.ax_idle_rv.proofs.Reach.{Calm, CalmBy, most_reach, most_width, reach, reach_by, width}
 
 -- ---- silent instructions
 -- it computes, or accesses the frame or an object
@@ -124,10 +124,10 @@ module _ (f k : ℕ) where
   ending : (is : List (MidInst Virtual)) (last : MidInst Virtual) (rest : List (Line Virtual)) → (map (silent f k) is ++ acting f k last ∷ []) ++ rest ≡ map (silent f k) is ++ (acting f k last ∷ rest)
   ending is last rest = append_assoc (map (silent f k) is) (acting f k last ∷ []) rest
 
-  straight_reach : (is : List (MidInst Virtual)) (last : MidInst Virtual) (rest : List (Line Virtual)) → Each is → reach ((map (silent f k) is ++ acting f k last ∷ []) ++ rest) ≡ weights is + 40
+  straight_reach : (is : List (MidInst Virtual)) (last : MidInst Virtual) (rest : List (Line Virtual)) → Each is → reach ((map (silent f k) is ++ acting f k last ∷ []) ++ rest) ≡ weights is + most_width
   straight_reach is last rest h = ap reach (ending is last rest) ∙ silent_reach is (acting f k last ∷ rest) h
 
-  straight_calm : (is : List (MidInst Virtual)) (last : MidInst Virtual) (rest : List (Line Virtual)) → Each is → weights is + 40 ≤ most_reach → Calm rest → Calm ((map (silent f k) is ++ acting f k last ∷ []) ++ rest)
+  straight_calm : (is : List (MidInst Virtual)) (last : MidInst Virtual) (rest : List (Line Virtual)) → Each is → weights is + most_width ≤ most_reach → Calm rest → Calm ((map (silent f k) is ++ acting f k last ∷ []) ++ rest)
   straight_calm is last rest h few calm = subst Calm (sym (ending is last rest)) (silent_calm is (acting f k last ∷ rest) h few (omega arith, tt, calm))
 
   -- silent instructions, so many at most, and one that acts
@@ -138,7 +138,7 @@ module _ (f k : ℕ) where
   flat_weights : (n : ℕ) (s : Straight) → Flat n s → weights s.silent ≤ 20 * n
   flat_weights n s h = let w = few_weights s.silent h.each in let few = h.few in omega (arith, w, few)
 
-  straight_good : (s : Straight) → Each s.silent → weights s.silent ≤ inner_rank - 40 → GoodBefore (straight f k s)
+  straight_good : (s : Straight) → Each s.silent → weights s.silent ≤ inner_rank - most_width → GoodBefore (straight f k s)
   straight_good s each few rest good =
       let r = straight_reach s.silent s.last rest each in
       (straight_calm s.silent s.last rest each (omega (arith, few)) good.0, omega (arith, r, few))
@@ -376,7 +376,7 @@ module _ (f k : ℕ) where
 
   record Edge (s : Straight) : Type 0 where
     each : Each s.silent
-    few : weights s.silent ≤ inner_rank - 40
+    few : weights s.silent ≤ inner_rank - most_width
 
   edge : (blocks : List Block) (b d : ℕ) → phi_count (insts_of_block blocks d) ≤ 64 → Edge (edge_lines f blocks b d)
   edge blocks b d few =

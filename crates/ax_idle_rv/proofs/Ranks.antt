@@ -28,9 +28,16 @@ inner_rank = 1600
 abbrev pub most_rank : ℕ
 most_rank = 2100
 
--- a linked load gives an Act, or leads to its pair store in fewer steps
+-- a linked load gives an Act, or from behind it so many steps lead to its pair store
+abbrev pub pair_rank : ℕ
+pair_rank = 9
+
 abbrev pub linked_rank : ℕ
-linked_rank = 7
+linked_rank = pair_rank + 1
+
+-- the code of an atomic operation has so many steps at most, with one turn back
+abbrev pub piece_rank : ℕ
+piece_rank = 36
 
 -- a label that is no block's
 abbrev pub IsInner : ℕ → Type 0
@@ -59,7 +66,7 @@ is_straight _ = false
 -- a turn leads forward, no further than the next place is, or back to a linked load
 abbrev pub turn_rank : ℤ → ℕ → ℕ
 turn_rank (pos j) rest = rest + 1
-turn_rank (negsuc j) rest = rest + 8
+turn_rank (negsuc j) rest = rest + linked_rank + 1
 
 -- a silent jump whose own mark is silent is a turn; others lead to an inner label
 abbrev pub jump_rank : Bool → ℤ → ℕ → ℕ
@@ -94,7 +101,7 @@ rank_at ds place = rank_of (from_place ds place)
 abbrev pub Links : Tag → Size → ℕ → ℕ → List (Drafted RvInstr) → Type 0
 Links t size rd rs ds =
     (p : ℕ) (c : Processor) (n : Noted) → AreBytes n.storage.mem → c.role ≡ Outside
-    → (let a = read rs c in let number = number_at n.storage.mem a (size_bytes size) in (given_of t (size_bytes size) c (loaded number) ≡ An_act) ⊎ Poised 6 ds p (go_with rd (extended (size_bytes size) (size_rest size) (c.regs rd) number) c) (link p a (size_bytes size) n))
+    → (let a = read rs c in let number = number_at n.storage.mem a (size_bytes size) in (given_of t (size_bytes size) c (loaded number) ≡ An_act) ⊎ Poised pair_rank ds p (go_with rd (extended (size_bytes size) (size_rest size) (c.regs rd) number) c) (link p a (size_bytes size) n))
 
 -- the target of each label, and the rank of each place
 module _ (target rank : ℕ → ℕ) where

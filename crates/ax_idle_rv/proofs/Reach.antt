@@ -8,15 +8,18 @@ use Rattle.ax_fine.specs.Fine.{is_quiet}
 use Rattle.ax_idle_rv.proofs.Ranks.{IsInner, inner_rank}
 
 -- so many instructions at most are an instruction's code
+abbrev pub most_width : ℕ
+most_width = 60
+
 abbrev pub width : MidInst Virtual → ℕ
 width (mid.Const to n) = 6
 width (mid.Copy to from) = 6
 width (mid.Label n) = 0
-width (mid.Atomic o w order weak address args results) = 40
+width (mid.Atomic o w order weak address args results) = most_width
 width _ = 20
 
 abbrev pub reach_by : Bool → MidInst Virtual → ℕ → ℕ
-reach_by false i rest = 40
+reach_by false i rest = most_width
 reach_by true (mid.Branch test a b) rest = 20 + inner_rank
 reach_by true i rest = width i + rest
 

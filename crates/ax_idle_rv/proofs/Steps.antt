@@ -32,7 +32,7 @@ use Rattle.ax_emit_rv.proofs.Ends.{jump_goes}
 use Rattle.ax_idle_rv.proofs.Falling.{Descends, Leads, Onward}
 use Rattle.ax_idle_rv.proofs.Kept.{Remembers}
 use Rattle.ax_idle_rv.proofs.Poised.{Poised, PoisedBy, pair_goes, poised_kept}
-use Rattle.ax_idle_rv.proofs.Ranks.{Fine, FineAt, Going, IsInner, Jumps, JumpsBy, Links, Turns, behind, fine_at, from_place, is_plain, is_straight, jump_rank, linked_rank, most_rank, places_low, rank_at, rank_by, rank_of, turn_rank}
+use Rattle.ax_idle_rv.proofs.Ranks.{Fine, FineAt, Going, IsInner, Jumps, JumpsBy, Links, Turns, behind, fine_at, from_place, is_plain, is_straight, jump_rank, linked_rank, most_rank, pair_rank, places_low, rank_at, rank_by, rank_of, turn_rank}
 
 get_map : {A B : Type 0} (f : A → B) (xs : List A) (k : ℕ) → slice_get (map f xs) k ≡ option_map f (slice_get xs k)
 get_map f [] k = refl
@@ -222,9 +222,9 @@ module _ (ds : List (Drafted RvInstr)) (lib : Library) (target : ℕ → ℕ) (f
         let linked : Noted = link p (read rs c) (size_bytes size) n in
         ⊎_elim (λ act. inl act)
         (λ poised. inr (inr (record {
-          rank = 6;
+          rank = pair_rank;
           less = omega (arith, low);
-          within = inr (subst (λ (xs : List (Drafted RvInstr)). Poised 6 xs p after d.noted) (sym (ap (from_place ds) next_place)) (poised_kept 6 rest p after linked d.noted (record { last = refl; lost = λ x is l. l }) poised));
+          within = inr (subst (λ (xs : List (Drafted RvInstr)). Poised pair_rank xs p after d.noted) (sym (ap (from_place ds) next_place)) (poised_kept pair_rank rest p after linked d.noted (record { last = refl; lost = λ x is l. l }) poised));
         }))) (h p c n bytes outside)
 
     silent : (mark : Tag) (i : RvInstr) → AreBytes n.storage.mem → c.role ≡ Outside → Going target (rank_at ds) false mark t i (1 + k) rest → rank_by false mark i (rank_of rest) ≤ r → Way t r p (effect_of i c) c n

@@ -1,5 +1,5 @@
 -- An image on RV64 lowers its module.
-use Rattle.std.proofs.Common.{◌≡◌, ℕ, zero, suc, ◌+◌, ◌-◌, ◌*◌, ◌%◌, ◌^◌, ◌<◌, ◌≤◌, Bool, true, false, ◌&&◌, ◌||◌, List, [], ◌∷◌, Option, Some, None, refl, sym, ap, ◌∙◌, subst, arith, length, map, option_map, slice_get}
+use Rattle.std.proofs.Common.{◌≡◌, ℕ, zero, suc, ◌+◌, ◌-◌, ◌*◌, ◌/◌, ◌%◌, ◌^◌, ◌<◌, ◌≤◌, Bool, true, false, ◌&&◌, ◌||◌, List, [], ◌∷◌, Option, Some, None, refl, sym, ap, ◌∙◌, subst, arith, length, map, option_map, slice_get}
 use Rattle.std.specs.Prelude.{IsTrue, if◌then◌else◌, nat_eq, nat_le, nat_lt, slice_index_or}
 use Rattle.std.proofs.Math.Nat.{mod-eq_of_lt}
 use Rattle.std.proofs.lemmas.Bool.{and_parts, false≢true}
@@ -11,10 +11,10 @@ use Rattle.ax_words.specs.declared.order.Order.{Order}
 use Rattle.ax_words.specs.declared.source.SourceStatus.TheVariants.{Running}
 use Rattle.ax_words.specs.declared.width.Width.{Width}
 use Rattle.ax_tags.specs.declared.tags.Tag.{Tag}
-use Rattle.ax_store.specs.Bytes.{number_at}
+use Rattle.ax_store.specs.Bytes.{all_inside, number_at}
 use Rattle.ax_map.specs.Map.{covers, frame_base, globals_start, in_globals, in_lock_table, in_regions}
 use Rattle.ax_store.proofs.Numbers.{number_same}
-use Rattle.ax_store.proofs.Regions.{frame_access}
+use Rattle.ax_store.proofs.Regions.{frame_access, globals_access, table_access}
 use Rattle.ax_layout.specs.declared.address_range.AddressRange.{AddressRange}
 use Rattle.ax_layout.specs.Layout.{CanBeLaidOut, is_element_type, next_multiple}
 use Rattle.ax_layout.specs.Regions.{AreThoseOfTheModule, InLayouts}
@@ -51,6 +51,7 @@ use Rattle.ax_expand.specs.Shared.{Shared, is_shared, masked}
 use Rattle.ax_expand.specs.World.{Words}
 use Rattle.ax_expand.proofs.Bytes.{bytes_lawful}
 use Rattle.ax_fine.specs.Fine.{Program, Sound, is_label, settle}
+use Rattle.ax_fine.specs.OnBytes.{AreWords}
 use Rattle.ax_fine.specs.Near.{AreSpelled, HasRoom, address_of}
 use Rattle.ax_emit.specs.Images.{code_in, place_of}
 use Rattle.ax_emit_rv.specs.Code.{Expansion, code_of, piece_of, size_of}
@@ -282,6 +283,33 @@ module _ (program : SourceProgram) (expansions : Op → Width → Order → Bool
       in_one false true z h = refl
       in_one false false z h = absurd (false≢true h)
 
+  -- below the frames they begin and end at words of 4 bytes
+  frames_above : (a p : ℕ) (fs : List ℕ) → a < 2 ^ 24 → ((k f : ℕ) → slice_get fs k ≡ Some f → slice_index_or image.frames f 0 ≡ 98440) → Rattle.ax_map.specs.Map.in_frames p (map (λ f. slice_index_or image.frames f 0) fs) a ≡ false
+  frames_above a p [] below h = refl
+  frames_above a p (f ∷ fs) below h =
+      let size = h 0 f refl in
+      let one : Rattle.ax_map.specs.Map.in_frame p (slice_index_or image.frames f 0) a ≡ false = grind (arith, nat_tests) in
+      ap (λ t. t || Rattle.ax_map.specs.Map.in_frames (p + 1) (map (λ f. slice_index_or image.frames f 0) fs) a) one ∙ frames_above a (p + 1) fs below (λ k g e. h (suc k) g e)
+
+  words_inside : AreWords inside
+  words_inside a below is = by (in_lock_table a) (in_globals (region_end program) a) refl refl
+    where
+      last : ℕ
+      last = (program.layout.end + 15) / 16
+
+      table : in_lock_table a ≡ true → (32768 ≤ a - a % 4) × (a - a % 4 + 4 ≤ 49152)
+      table h = (grind (arith, nat_tests), grind (arith, nat_tests))
+
+      globals : (end : ℕ) → in_globals (end * 16) a ≡ true → (65536 ≤ a - a % 4) × (a - a % 4 + 4 ≤ end * 16)
+      globals end h = (grind (arith, nat_tests), grind (arith, nat_tests))
+
+      by : (t g : Bool) → in_lock_table a ≡ t → in_globals (region_end program) a ≡ g → all_inside inside (a - a % 4) 4 ≡ true
+      by true g t_is g_is = (let w = table t_is in table_access (region_end program) (a - a % 4) 4 sizes w.0 w.1)
+      by false true t_is g_is = (let w = globals last g_is in globals_access (region_end program) (a - a % 4) 4 sizes w.0 w.1)
+      by false false t_is g_is =
+          let none = frames_above a 0 entries below (λ k f e. frame_in program expansions f (are.each k f e)) in
+          absurd (false≢true (sym none ∙ sym (ap (λ t. t || in_globals (region_end program) a || Rattle.ax_map.specs.Map.in_frames 0 sizes a) t_is ∙ ap (λ t. t || Rattle.ax_map.specs.Map.in_frames 0 sizes a) g_is) ∙ is))
+
   entry_size : (p f : ℕ) → slice_get entries p ≡ Some f → slice_index_or sizes p 0 ≡ 98440
   entry_size p f e = index_of_get sizes p (slice_index_or image.frames f 0) 0 (get_map (λ f. slice_index_or image.frames f 0) entries p ∙ ap (option_map (λ f. slice_index_or image.frames f 0)) e) ∙ frame_in program expansions f (are.each p f e)
 
@@ -309,6 +337,7 @@ module _ (program : SourceProgram) (expansions : Op → Width → Order → Bool
   housed = record {
     places = frame_place;
     globals = globals_inside;
+    words = words_inside;
     room = room;
     spells = record { mapped = refl; small = masked_small; spelled = first_spelled; waiting = λ p. tt };
   }

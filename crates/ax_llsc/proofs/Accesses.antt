@@ -31,7 +31,7 @@ use Rattle.ax_emit_rv.specs.Code.{load_form, store_form}
 use Rattle.ax_llsc.specs.Rounds.{Rounding, all, raws, unfinished}
 use Rattle.ax_llsc.specs.Loops.{size_of}
 use Rattle.ax_llsc.specs.Codes.{IsPrepared, Registers, amo_of, ending_of, fencing, loading, operand_of, raw_of, storing, updating}
-use Rattle.ax_llsc.proofs.Found.{object_of}
+use Rattle.ax_mask.proofs.Found.{object_of}
 
 -- an address below the frames is one without a displacement
 at_object : (a b n : ℕ) (w : Shared) → a ≡ b → IsObject b n w → displaced a (pos 0) ≡ b

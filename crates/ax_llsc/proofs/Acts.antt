@@ -25,7 +25,7 @@ use Rattle.ax_fine.specs.OnBytes.{IsObject, atomic_doing, fenced, found_at, load
 use Rattle.ax_expand.specs.Doing.{Doing, Result}
 use Rattle.ax_expand.specs.Shared.{Shared, shared_wrote}
 use Rattle.ax_emit.specs.Atomics.{AllOf, Counted}
-use Rattle.ax_llsc.proofs.Found.{loaded_small, sent_same, sent_small}
+use Rattle.ax_mask.proofs.Found.{loaded_small, sent_same, sent_small}
 
 -- a store takes the low bits of its number
 pub cut_again : (a n v : ℕ) → entry_of a n (v % 2 ^ (8 * n)) ≡ entry_of a n v

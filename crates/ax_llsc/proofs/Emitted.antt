@@ -20,7 +20,8 @@ use Rattle.ax_emit.specs.Touches.{IsSize}
 use Rattle.ax_fine.specs.Fine.{Program}
 use Rattle.ax_emit_rv.specs.Code.{Expansion, cleared, first_argument, first_result, homes_from, load_in, store_in}
 use Rattle.ax_emit_rv.specs.Laws.{Accessed, Expanded, every, is_kept}
-use Rattle.ax_llsc.specs.Codes.{Atomic, Coded, IsCoded, PlainLoad, PlainStore, args_of_op, expansion_of, results_of_op}
+use Rattle.ax_mask.specs.Pairs.{args_of_op, results_of_op}
+use Rattle.ax_llsc.specs.Codes.{Atomic, Coded, IsCoded, PlainLoad, PlainStore, expansion_of}
 use Rattle.ax_llsc.specs.Laws.{DirectCodeExpands, over_bytes}
 use Rattle.ax_llsc.proofs.Idle.{idle_few}
 use Rattle.ax_llsc.proofs.Coded.{are_counted}
@@ -68,7 +69,7 @@ few_results (op.Rmw o) = omega arith
 few_results op.Fence = omega arith
 
 pub expanded : DirectCodeExpands → {R : Type 0} (m : Program R Shared) (zabha zacas : Bool) (expansions : Op → Width → Order → Bool → Expansion) (most : ℕ) (o : Op) (width : Width) (order : Order) (weak : Bool) (args results : List R) → IsCoded (Rv zabha zacas) (Atomic o width order weak)
-    → expansions o width order weak ≡ expansion_of (Rv zabha zacas) (Atomic o width order weak) → length args ≡ words_taken o width → length results ≡ words_given o width → 30 ≤ most → Expanded (over_bytes zabha zacas m) expansions most o width order weak args results
+    → expansions o width order weak ≡ expansion_of (Rv zabha zacas) (Atomic o width order weak) → length args ≡ words_taken o width → length results ≡ words_given o width → 48 ≤ most → Expanded (over_bytes zabha zacas m) expansions most o width order weak args results
 expanded law m zabha zacas expansions most o width order weak args results way is taken given enough =
     let words = words_are zabha zacas o width way in
     let many_args = taken ∙ words.0 in

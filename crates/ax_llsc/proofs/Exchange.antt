@@ -1,5 +1,5 @@
 -- The linked load, the comparison, the pair store and what follows do what a compare-exchange says.
-use Rattle.std.proofs.Common.{◌≡◌, ℕ, suc, ◌+◌, ◌-◌, ◌%◌, ◌^◌, ◌<◌, ◌≤◌, Bool, true, false, [], ◌∷◌, ◌++◌, length, refl, sym, ap, ◌∙◌, subst, inl, inr, arith}
+use Rattle.std.proofs.Common.{◌≡◌, ℕ, suc, ◌+◌, ◌-◌, ◌%◌, ◌^◌, ◌<◌, ◌≤◌, Bool, true, false, [], ◌∷◌, ◌++◌, length, None, refl, sym, ap, ◌∙◌, subst, inl, inr, arith}
 use Rattle.std.specs.Prelude.{◌≢◌, if◌then◌else◌, not, nat_eq, pos, negsuc}
 use Rattle.std.proofs.lemmas.Bool.{eq-eqb, ne_eqb}
 use Rattle.ax_words.specs.declared.order.Order.{Order}
@@ -13,7 +13,7 @@ use Rattle.ax_isa.specs.Numbers.{displaced}
 use Rattle.ax_isa.specs.Processor.{Processor}
 use Rattle.ax_isa.specs.Steps.{go_to, go_with}
 use Rattle.ax_isa.proofs.Functions.{at_same, at_other}
-use Rattle.ax_rv.specs.Arithmetic.{holds, one_if}
+use Rattle.ax_rv.specs.Arithmetic.{one_if}
 use Rattle.ax_rv.specs.declared.instructions.Binary.TheVariants as binary
 use Rattle.ax_rv.specs.declared.instructions.Condition.TheVariants as condition
 use Rattle.ax_rv.specs.declared.instructions.RvInstr.{RvInstr}
@@ -31,11 +31,12 @@ use Rattle.ax_expand.proofs.Bytes.{bytes_lawful}
 use Rattle.ax_emit_rv.specs.Laws.{is_kept}
 use Rattle.ax_loops.specs.Exchanging.{Exchange}
 use Rattle.ax_loops.specs.Moving.{nowhere}
-use Rattle.ax_loops.specs.PairExchange.{AtPair, Exchanges, HasLinked, IsThrough, PairExchange, exchange_code as pair_code, exchange_size}
+use Rattle.ax_loops.specs.PairExchange.{AtPair, Exchanges, HasLinked, IsThrough, PairExchange, Pairs, exchange_code as pair_code, exchange_size}
 use Rattle.ax_loops.specs.Registers.{all_but}
 use Rattle.ax_loops.specs.Ways.{Laid, Leads, Leaves, Way}
-use Rattle.ax_loops.proofs.Registers.{apart, with_result}
-use Rattle.ax_llsc.specs.Loops.{answer, clear, comparand, different, exchange_code, exchange_expansion, link, size_of, store_ending}
+use Rattle.ax_loops.proofs.Registers.{apart, compares_whole, with_result}
+use Rattle.ax_mask.specs.Pairs.{store_ending}
+use Rattle.ax_llsc.specs.Loops.{answer, clear, comparand, different, exchange_code, exchange_expansion, link, size_of}
 use Rattle.ax_llsc.specs.Codes.{raw_of}
 use Rattle.ax_llsc.proofs.Pairs.{Clears, Extends, clear_short, clear_way, extends_of, links_at, not_kept}
 use Rattle.ax_llsc.proofs.Ways.{IsAtomicWidth, atomic_width}
@@ -94,6 +95,7 @@ module _ (zabha zacas : Bool) (width : Width) (order : Order) (h : IsAtomicWidth
         old = 15;
         rest = size_rest (size_of width);
         expected = 11;
+        mask = None;
         failed = 16;
         holds = held;
         back = back;
@@ -307,7 +309,7 @@ module _ (zabha zacas : Bool) (width : Width) (order : Order) (h : IsAtomicWidth
     abbrev number : ℕ
     number = cut regs
 
-    strong_pair : Linked false 1 start regs number c → AtPair rv_kind is_kept (o false) (exchange width) strong start regs (c2 start c regs number)
+    strong_pair : Linked false 1 start regs number c → AtPair rv_kind is_kept (o false) (exchange width) strong start regs number (c2 start c regs number)
     strong_pair q =
         let at = q.place in
         let room = q.room in
@@ -349,7 +351,7 @@ module _ (zabha zacas : Bool) (width : Width) (order : Order) (h : IsAtomicWidth
           };
         }
 
-    weak_pair : Linked true 0 start regs number c → AtPair rv_kind is_kept (o true) (exchange width) weakly start regs (c2 start c regs number)
+    weak_pair : Linked true 0 start regs number c → AtPair rv_kind is_kept (o true) (exchange width) weakly start regs number (c2 start c regs number)
     weak_pair q =
         let at = q.place in
         let room = q.room in
@@ -370,10 +372,33 @@ module _ (zabha zacas : Bool) (width : Width) (order : Order) (h : IsAtomicWidth
     agrees : (weak : Bool) (back : ℕ) → Linked weak back start regs number c → (c1 start c regs number).regs 15 ≡ (c1 start c regs number).regs 5
     agrees weak back q = (let s = first_reads weak back start regs number c q in s.old ∙ sym s.comparand)
 
+  -- from the linked load to the pair store
+  to_pair : (weak : Bool) (back : ℕ) → 2 + back + 1 ≤ 6 → (start : ℕ) (c : Processor) (regs : ℕ → ℕ) → Linked weak back start regs (cut regs) c → AtPair rv_kind is_kept (o weak) (exchange width) (code_by weak back) start regs (cut regs) (c2 start c regs (cut regs))
+      → Pairs rv_kind is_kept (o weak) (exchange width) (code_by weak back) start regs (cut regs) c
+  to_pair weak back few start c regs q at =
+      record {
+        forth = 2;
+        few = few;
+        leads = record {
+          steps = 2;
+          few = omega arith;
+          way = first weak back start _ 1 c q.place
+              (record {
+                offset = 2;
+                instr = Branch condition.NotEqual 15 5 (pos (different weak));
+                after = c2 start c regs (cut regs);
+                place = (let at = q.place in let e : c.place + 1 ≡ start + 2 = omega (arith, at) in e);
+                stands = refl;
+                leaves = passed weak back start (c1 start c regs (cut regs)) (agrees start c regs weak back q);
+                next = at;
+              });
+        };
+      }
+
   -- what is to be shown of either, but for its ways behind the branch and the pair store
   exchanges : (weak : Bool) (back : ℕ) → 2 + back + 1 ≤ 6
       → ((start : ℕ) (c : Processor) (regs : ℕ → ℕ) (number : ℕ) → Linked weak back start regs number c → number ≢ cut regs → Leads (laid weak back start) 6 (λ b. Over weak back start ((exchange width).gives regs number false) b) c)
-      → ((start : ℕ) (c : Processor) (regs : ℕ → ℕ) → Linked weak back start regs (cut regs) c → AtPair rv_kind is_kept (o weak) (exchange width) (code_by weak back) start regs (c2 start c regs (cut regs)))
+      → ((start : ℕ) (c : Processor) (regs : ℕ → ℕ) → Linked weak back start regs (cut regs) c → AtPair rv_kind is_kept (o weak) (exchange width) (code_by weak back) start regs (cut regs) (c2 start c regs (cut regs)))
       → Exchanges rv_kind is_kept (o weak) (exchange width) (code_by weak back) bytes_world
   exchanges weak back few leaves pairs =
       record {
@@ -382,29 +407,12 @@ module _ (zabha zacas : Bool) (width : Width) (order : Order) (h : IsAtomicWidth
         few = omega (arith, few);
         kept = λ q e. (let a = held_apart q e in (a.0, a.1));
         fills = λ before number. (atomic_width width h).raw_is before number ∙ sym ((atomic_width width h).raw_is 0 number);
-        expects = refl;
-        expected = λ regs w fit. refl;
+        compares = λ c regs number w fit s small. compares_whole (bytes_of width) number 11 c regs (s 11 refl) small;
         links = λ c regs w fit s. links_at width order c (regs 10) (atomic_width width h) (s 10 refl);
         differs = λ start c regs number w fit q ne. leaves start c regs number q ne;
-        equals = λ start c regs w fit q.
-            record {
-              forth = 2;
-              few = few;
-              leads = record {
-                steps = 2;
-                few = omega arith;
-                way = first weak back start _ 1 c q.place
-                    (record {
-                      offset = 2;
-                      instr = Branch condition.NotEqual 15 5 (pos (different weak));
-                      after = c2 start c regs (cut regs);
-                      place = (let at = q.place in let e : c.place + 1 ≡ start + 2 = omega (arith, at) in e);
-                      stands = refl;
-                      leaves = passed weak back start (c1 start c regs (cut regs)) (agrees start c regs weak back q);
-                      next = pairs start c regs q;
-                    });
-              };
-            };
+        equals = λ start c regs number w fit q same.
+            (let is = subst (λ n. Linked weak back start regs n c) same q in
+            subst (λ n. Pairs rv_kind is_kept (o weak) (exchange width) (code_by weak back) start regs n c) (sym same) (to_pair weak back few start c regs is (pairs start c regs is)));
       }
 
   few_steps : suc (suc (suc (suc (length (clear 15 width))))) ≤ 6

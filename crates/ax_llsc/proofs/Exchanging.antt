@@ -1,5 +1,5 @@
 -- A compare-exchange of 4 or 8 bytes on the bytes that all processors share is one that ax_loops speaks of.
-use Rattle.std.proofs.Common.{◌≡◌, ℕ, ◌-◌, ◌%◌, ◌^◌, Bool, true, false, [], ◌∷◌, Option, Some, None, refl, sym, ap, ◌∙◌, subst}
+use Rattle.std.proofs.Common.{◌≡◌, ℕ, ◌%◌, ◌^◌, Bool, true, false, [], ◌∷◌, Option, Some, None, refl, sym, ap, ◌∙◌, subst}
 use Rattle.std.specs.Prelude.{◌&&◌, if◌then◌else◌, nat_eq}
 use Rattle.std.proofs.lemmas.Bool.{eq-eqb, ne_eqb}
 use Rattle.ax_words.specs.declared.mark.Op.TheVariants as op
@@ -26,7 +26,7 @@ use Rattle.ax_loops.specs.Exchanging.{Answers, Exchange, IsExchange, Stores}
 use Rattle.ax_loops.specs.Replacing.{Wrote}
 use Rattle.ax_loops.proofs.Updating.{wrote_sees}
 use Rattle.ax_llsc.proofs.Acts.{cut_again}
-use Rattle.ax_llsc.proofs.Found.{object_of, sent_same}
+use Rattle.ax_mask.proofs.Found.{object_of, sent_same}
 use Rattle.ax_llsc.proofs.Pairs.{is_width, none_pending, some_byte}
 use Rattle.ax_llsc.proofs.Ways.{IsAtomicWidth}
 
@@ -36,7 +36,8 @@ exchange width =
       bytes = bytes_of width;
       address = λ regs. regs 10;
       expected = λ regs. regs 11 % 2 ^ bits_of width;
-      desired = λ regs. regs 12;
+      part = λ regs number. number;
+      leaves = λ regs number. regs 12;
       gives = λ regs number stored. at_place (at_place regs 15 (number % 2 ^ 64)) 16 (number_of_flag stored);
       finds = λ regs w. number_at w.mem (regs 10) (bytes_of width);
     }
@@ -115,7 +116,7 @@ module _ (zabha zacas : Bool) (order : Order) (weak : Bool) where
     is_exchange_of =
         record {
           width = is_width width h;
-          stores = λ p n regs seen w sees empty fit same. acts p n regs seen w (r.expected regs) true (λ d. Stores bytes_world r n p regs d) sees empty same (eq-eqb _ _ same) (record { regs = refl; output = refl; excused = refl }, λ lib new by. wrote lib p n new regs w sees by);
+          stores = λ p n regs seen w sees empty fit same. acts p n regs seen w (r.expected regs) true (λ d. Stores bytes_world r n p regs (r.finds regs w) d) sees empty same (eq-eqb _ _ same) (record { regs = refl; output = refl; excused = refl }, λ lib new by. wrote lib p n new regs w sees by);
           differs = λ p n regs seen w sees empty fit apart.
               acts p n regs seen w (r.finds regs w) false (λ d. Answers bytes_world r n (r.gives regs (r.finds regs w) false) d) sees empty refl (ne_eqb _ _ apart) (record { regs = refl; output = refl; excused = refl }, sees);
           looks = λ is p n regs seen w sees fit. looks_if regs w (λ d. (d.seen ≡ Some (r.finds regs w)) × Answers bytes_world r n regs d) is (refl, (record { regs = refl; output = refl; excused = refl }, sees));

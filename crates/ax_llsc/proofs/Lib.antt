@@ -1,5 +1,4 @@
 pub mod Rounds
-pub mod Found
 pub mod Accesses
 pub mod Around
 pub mod Acts

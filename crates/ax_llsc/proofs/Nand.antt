@@ -45,12 +45,13 @@ use Rattle.ax_loops.specs.Replacing.{Replacement, Replaces}
 use Rattle.ax_loops.specs.Retry.{Computes, Retries, RetryLoop, retry_code, retry_most, retry_size}
 use Rattle.ax_loops.proofs.Registers.{apart, with_result}
 use Rattle.ax_loops.proofs.Updating.{seen_small, wrote_sees}
-use Rattle.ax_llsc.specs.Loops.{clear, link, nand_back, nand_code, nand_computation, nand_expansion, size_of, store_ending}
+use Rattle.ax_llsc.specs.Loops.{clear, link, nand_back, nand_code, nand_computation, nand_expansion, size_of}
+use Rattle.ax_mask.specs.Pairs.{store_ending}
 use Rattle.ax_llsc.specs.Codes.{raw_of}
 use Rattle.ax_llsc.specs.Rounds.{no_room}
 use Rattle.ax_llsc.proofs.Acts.{atomic_updates}
 use Rattle.ax_llsc.proofs.Around.{over_clear}
-use Rattle.ax_llsc.proofs.Found.{object_of}
+use Rattle.ax_mask.proofs.Found.{object_of}
 use Rattle.ax_llsc.proofs.Pairs.{is_width, links_at, none_pending, not_kept, some_byte}
 use Rattle.ax_llsc.proofs.Ways.{AtomicWidth, IsAtomicWidth, atomic_width}
 

@@ -1,5 +1,5 @@
 -- The skeleton of each code is its row.
-use Rattle.std.proofs.Common.{◌≡◌, ℕ, Bool, true, false, List, [], ◌∷◌, map, refl, sym, ap, subst, ⊎_elim}
+use Rattle.std.proofs.Common.{◌≡◌, ◌∙◌, ℕ, Bool, true, false, List, [], ◌∷◌, map, refl, sym, ap, subst, ⊎_elim}
 use Rattle.std.proofs.lemmas.Bool.{false≢true}
 use Rattle.ax_words.specs.declared.mark.Mark.{Mark}
 use Rattle.ax_words.specs.declared.mark.Mark.TheVariants.{Memory}
@@ -15,6 +15,7 @@ use Rattle.ax_words.specs.declared.width.Width.TheVariants.{W8, W16, W32, W64, W
 use Rattle.ax_words.specs.Orders.{is_legal}
 use Rattle.ax_words.specs.Width.{bytes_of}
 use Rattle.ax_target.specs.declared.target.Target.TheVariants.{Rv}
+use Rattle.ax_target.specs.declared.decision.Way.TheVariants.{Masked}
 use Rattle.ax_target.specs.Decisions.{decided}
 use Rattle.ax_target.specs.Endings.{endings, with_ending}
 use Rattle.ax_target.specs.Rows.{access_of, row_of}
@@ -22,9 +23,12 @@ use Rattle.ax_target.specs.RvRows.{rv_pair, rv_rmw}
 use Rattle.ax_mid.specs.Machine.{is_wide}
 use Rattle.ax_rv.specs.Instructions.{is_frame_register}
 use Rattle.ax_rv.specs.Skeleton.{amo_code, ended, load_code, skeleton, store_code}
-use Rattle.ax_llsc.specs.Loops.{link_ending, store_ending}
-use Rattle.ax_llsc.specs.Codes.{Atomic, IsCoded, amo_of, ending_of, expansion_of}
-use Rattle.ax_llsc.proofs.Ways.{HasAmo, IsAtomicWidth, amo_or_nand, exchange_way, load_way, store_way, update_way}
+use Rattle.ax_mask.specs.Codes.{is_masked, is_narrow, masked_expansion}
+use Rattle.ax_mask.specs.Laws.{MaskedCodeHasRow}
+use Rattle.ax_mask.proofs.Rows.{pair_row}
+use Rattle.ax_emit_rv.specs.Code.{Expansion}
+use Rattle.ax_llsc.specs.Codes.{Atomic, IsCoded, amo_of, ending_of, exchange_of, expansion_of, update_of}
+use Rattle.ax_llsc.proofs.Ways.{HasAmo, IsAtomicWidth, amo_or_nand, exchange_way, load_way, narrow_or_whole, store_way, update_way}
 
 -- the instructions of some code
 abbrev marks : (zabha zacas : Bool) → Op → Width → Order → Bool → ℕ → List Mark
@@ -144,15 +148,7 @@ update_row zabha zacas rmw.UMax W64 order weak start has size = amo_row rmw.UMax
 update_row zabha zacas rmw.UMin W32 order weak start has size = amo_row rmw.UMin order 4 tt
 update_row zabha zacas rmw.UMin W64 order weak start has size = amo_row rmw.UMin order 8 tt
 
--- a linked load and a pair store
-pair_row : (order : Order) (n : ℕ) → Memory (load_code (link_ending order)) n ∷ Memory (store_code (store_ending order)) n ∷ [] ≡ rv_pair order n
-pair_row Unordered n = refl
-pair_row Monotonic n = refl
-pair_row Acquire n = refl
-pair_row Release n = refl
-pair_row AcqRel n = refl
-pair_row SeqCst n = refl
-
+-- ---- loops of a linked load and a pair store
 nand_row : (zabha zacas : Bool) (width : Width) (order : Order) (weak : Bool) (start : ℕ) → IsAtomicWidth width → IsRow zabha zacas (op.Rmw rmw.Nand) width order weak start
 nand_row zabha zacas W32 order weak start size = pair_row order 4
 nand_row zabha zacas W64 order weak start size = pair_row order 8
@@ -169,11 +165,47 @@ exchange_row zabha zacas W8 order weak start size = absurd size
 exchange_row zabha zacas W16 order weak start size = absurd size
 exchange_row zabha zacas W128 order weak start size = absurd size
 
-pub rows : (zabha zacas : Bool) (o : Op) (width : Width) (order : Order) (weak : Bool) (start : ℕ) → IsCoded (Rv zabha zacas) (Atomic o width order weak) → is_legal (access_of o) order ≡ true → IsRow zabha zacas o width order weak start
-rows zabha zacas op.Load width order weak start way legal = load_row zabha zacas width order weak start (load_way zabha zacas width way) legal
-rows zabha zacas op.Store width order weak start way legal = store_row zabha zacas width order weak start (store_way zabha zacas width way) legal
-rows zabha zacas op.Cmpxchg width order weak start way legal = exchange_row zabha zacas width order weak start (exchange_way zabha zacas width way)
-rows zabha zacas (op.Rmw o) width order weak start way legal =
-    (let size = update_way zabha zacas o width way in
-    ⊎_elim (λ e. subst (λ q. IsRow zabha zacas (op.Rmw q) width order weak start) (sym e) (nand_row zabha zacas width order weak start size)) (λ has. update_row zabha zacas o width order weak start has size) (amo_or_nand o))
-rows zabha zacas op.Fence width order weak start way legal = fence_row zabha zacas width order weak start
+-- ---- of the word that holds the object
+narrow_way : (zabha zacas : Bool) (o : RmwOp) → (decided (Rv zabha zacas) (op.Rmw o) W8 1 ≡ Masked) × (decided (Rv zabha zacas) (op.Rmw o) W16 2 ≡ Masked)
+narrow_way zabha zacas rmw.Xchg = (refl, refl)
+narrow_way zabha zacas rmw.Add = (refl, refl)
+narrow_way zabha zacas rmw.Sub = (refl, refl)
+narrow_way zabha zacas rmw.And = (refl, refl)
+narrow_way zabha zacas rmw.Nand = (refl, refl)
+narrow_way zabha zacas rmw.Or = (refl, refl)
+narrow_way zabha zacas rmw.Xor = (refl, refl)
+narrow_way zabha zacas rmw.Max = (refl, refl)
+narrow_way zabha zacas rmw.Min = (refl, refl)
+narrow_way zabha zacas rmw.UMax = (refl, refl)
+narrow_way zabha zacas rmw.UMin = (refl, refl)
+
+masked_way : (zabha zacas : Bool) (o : Op) (width : Width) → is_narrow width ≡ true → is_masked o ≡ true → decided (Rv zabha zacas) o width (bytes_of width) ≡ Masked
+masked_way zabha zacas op.Cmpxchg W8 narrow is = refl
+masked_way zabha zacas op.Cmpxchg W16 narrow is = refl
+masked_way zabha zacas (op.Rmw o) W8 narrow is = (narrow_way zabha zacas o).0
+masked_way zabha zacas (op.Rmw o) W16 narrow is = (narrow_way zabha zacas o).1
+masked_way zabha zacas op.Load width narrow is = absurd (false≢true is)
+masked_way zabha zacas op.Store width narrow is = absurd (false≢true is)
+masked_way zabha zacas op.Fence width narrow is = absurd (false≢true is)
+masked_way zabha zacas o W32 narrow is = absurd (false≢true narrow)
+masked_way zabha zacas o W64 narrow is = absurd (false≢true narrow)
+masked_way zabha zacas o W128 narrow is = absurd (false≢true narrow)
+
+module _ (law : MaskedCodeHasRow) (zabha zacas : Bool) where
+  -- the row of an expansion's code
+  abbrev HasRow : Op → Width → Order → ℕ → Expansion → Type 0
+  HasRow o width order start e = skeleton is_frame_register (map (λ i. i.0) (e.piece start)) ≡ row_of (Rv zabha zacas) o order width (decided (Rv zabha zacas) o width (bytes_of width))
+
+  narrow_row : (o : Op) (width : Width) (order : Order) (weak : Bool) (start : ℕ) → is_narrow width ≡ true → is_masked o ≡ true → is_legal (access_of o) order ≡ true → HasRow o width order start (masked_expansion o width order weak)
+  narrow_row o width order weak start narrow is legal = law zabha zacas o width order weak narrow is legal ∙ ap (row_of (Rv zabha zacas) o order width) (sym (masked_way zabha zacas o width narrow is))
+
+  pub rows : (o : Op) (width : Width) (order : Order) (weak : Bool) (start : ℕ) → IsCoded (Rv zabha zacas) (Atomic o width order weak) → is_legal (access_of o) order ≡ true → IsRow zabha zacas o width order weak start
+  rows op.Load width order weak start way legal = load_row zabha zacas width order weak start (load_way zabha zacas width way) legal
+  rows op.Store width order weak start way legal = store_row zabha zacas width order weak start (store_way zabha zacas width way) legal
+  rows op.Cmpxchg width order weak start way legal =
+      ⊎_elim (λ narrow. subst (λ b. HasRow op.Cmpxchg width order start (exchange_of b width order weak)) (sym narrow) (narrow_row op.Cmpxchg width order weak start narrow refl legal)) (λ whole. exchange_row zabha zacas width order weak start whole) (narrow_or_whole width (exchange_way zabha zacas width way))
+  rows (op.Rmw o) width order weak start way legal =
+      ⊎_elim (λ narrow. subst (λ b. HasRow (op.Rmw o) width order start (update_of b (Rv zabha zacas) o width order weak)) (sym narrow) (narrow_row (op.Rmw o) width order weak start narrow refl legal))
+      (λ size. ⊎_elim (λ e. subst (λ q. IsRow zabha zacas (op.Rmw q) width order weak start) (sym e) (nand_row zabha zacas width order weak start size)) (λ has. update_row zabha zacas o width order weak start has size) (amo_or_nand o))
+      (narrow_or_whole width (update_way zabha zacas o width way))
+  rows op.Fence width order weak start way legal = fence_row zabha zacas width order weak start

@@ -10,7 +10,6 @@ use Rattle.ax_words.specs.declared.operation.RmwOp.TheVariants as rmw
 use Rattle.ax_words.specs.declared.width.Width.{Width}
 use Rattle.ax_words.specs.declared.width.Width.TheVariants.{W8, W16, W32, W64, W128}
 use Rattle.ax_words.specs.Width.{bits_of, bytes_of}
-use Rattle.ax_target.specs.declared.decision.Way.TheVariants.{Masked}
 use Rattle.ax_target.specs.declared.target.Target.TheVariants.{Rv}
 use Rattle.ax_target.specs.Decisions.{decided}
 use Rattle.ax_isa.specs.Steps.{extended}
@@ -20,7 +19,9 @@ use Rattle.ax_rv.specs.Instructions.{load_rest, size_rest}
 use Rattle.ax_rv.specs.Skeleton.{load_bytes, size_bytes, store_bytes}
 use Rattle.ax_emit_rv.specs.Code.{load_form, store_form}
 use Rattle.ax_llsc.specs.Loops.{size_of}
-use Rattle.ax_llsc.specs.Codes.{args_of_op, is_coded_way, raw_of, results_of_op}
+use Rattle.ax_mask.specs.Codes.{is_narrow}
+use Rattle.ax_mask.specs.Pairs.{args_of_op, results_of_op}
+use Rattle.ax_llsc.specs.Codes.{is_coded_way, raw_of}
 
 -- ---- widths
 -- of 1, 2, 4 or 8 bytes
@@ -62,6 +63,21 @@ atomic_width W8 h = absurd h
 atomic_width W16 h = absurd h
 atomic_width W128 h = absurd h
 
+-- an object is a part of the word of a pair, or one itself
+pub narrow_or_whole : (width : Width) → is_wide width ≡ false → (is_narrow width ≡ true) ⊎ IsAtomicWidth width
+narrow_or_whole W8 h = inl refl
+narrow_or_whole W16 h = inl refl
+narrow_or_whole W32 h = inr tt
+narrow_or_whole W64 h = inr tt
+narrow_or_whole W128 h = absurd (false≢true (sym h))
+
+pub whole_width : (width : Width) → IsAtomicWidth width → is_narrow width ≡ false
+whole_width W32 h = refl
+whole_width W64 h = refl
+whole_width W8 h = absurd h
+whole_width W16 h = absurd h
+whole_width W128 h = absurd h
+
 -- ---- ways
 -- a read-modify-write that is one instruction
 abbrev pub HasAmo : RmwOp → Type 0
@@ -100,31 +116,18 @@ module _ (zabha zacas : Bool) where
   store_way W64 h = refl
   store_way W128 h = absurd (false≢true h)
 
-  pub exchange_way : (width : Width) → Has op.Cmpxchg width → IsAtomicWidth width
-  exchange_way W8 h = absurd (false≢true h)
-  exchange_way W16 h = absurd (false≢true h)
-  exchange_way W32 h = tt
-  exchange_way W64 h = tt
+  pub exchange_way : (width : Width) → Has op.Cmpxchg width → is_wide width ≡ false
+  exchange_way W8 h = refl
+  exchange_way W16 h = refl
+  exchange_way W32 h = refl
+  exchange_way W64 h = refl
   exchange_way W128 h = absurd (false≢true h)
 
-  masked : (o : RmwOp) → (decided (Rv zabha zacas) (op.Rmw o) W8 1 ≡ Masked) × (decided (Rv zabha zacas) (op.Rmw o) W16 2 ≡ Masked)
-  masked rmw.Xchg = (refl, refl)
-  masked rmw.Add = (refl, refl)
-  masked rmw.Sub = (refl, refl)
-  masked rmw.And = (refl, refl)
-  masked rmw.Nand = (refl, refl)
-  masked rmw.Or = (refl, refl)
-  masked rmw.Xor = (refl, refl)
-  masked rmw.Max = (refl, refl)
-  masked rmw.Min = (refl, refl)
-  masked rmw.UMax = (refl, refl)
-  masked rmw.UMin = (refl, refl)
-
-  pub update_way : (o : RmwOp) (width : Width) → Has (op.Rmw o) width → IsAtomicWidth width
-  update_way o W8 h = absurd (false≢true (sym (ap is_coded_way (masked o).0) ∙ h))
-  update_way o W16 h = absurd (false≢true (sym (ap is_coded_way (masked o).1) ∙ h))
-  update_way o W32 h = tt
-  update_way o W64 h = tt
+  pub update_way : (o : RmwOp) (width : Width) → Has (op.Rmw o) width → is_wide width ≡ false
+  update_way o W8 h = refl
+  update_way o W16 h = refl
+  update_way o W32 h = refl
+  update_way o W64 h = refl
   update_way o W128 h = absurd (false≢true h)
 
   -- ---- so many words as registers
@@ -137,8 +140,8 @@ module _ (zabha zacas : Bool) where
   pub words_are : (o : Op) (width : Width) → Has o width → (words_taken o width ≡ length (args_of_op o)) × (words_given o width ≡ length (results_of_op o))
   words_are op.Load width way = (refl, words_one width (load_way width way))
   words_are op.Store width way = (words_one width (store_way width way), refl)
-  words_are op.Cmpxchg width way = (let narrow = (atomic_width width (exchange_way width way)).narrow in (words_two width narrow, ap (λ n. n + 1) (words_one width narrow)))
-  words_are (op.Rmw o) width way = (let e = words_one width (atomic_width width (update_way o width way)).narrow in (e, e))
+  words_are op.Cmpxchg width way = (let narrow = exchange_way width way in (words_two width narrow, ap (λ n. n + 1) (words_one width narrow)))
+  words_are (op.Rmw o) width way = (let e = words_one width (update_way o width way) in (e, e))
   words_are op.Fence width way = (refl, refl)
 
 pub plain_width : (width : Width) → bytes_of width ≤ 8 → is_wide width ≡ false

@@ -1,4 +1,4 @@
--- THE CODE OF ATOMIC OPERATIONS ON RV64: that of the way Inline (RISC-V Unprivileged ISA: RV64I, and A, "Atomic Memory Operations"; "Code porting and mapping guidelines", table A.6), and of plain accesses, on the registers that emission gives them.
+-- THE CODE OF ATOMIC OPERATIONS ON RV64, by operation and width: that of the way Inline (RISC-V Unprivileged ISA: RV64I, and A, "Atomic Memory Operations"; "Code porting and mapping guidelines", table A.6), and of plain accesses, on the registers that emission gives them.
 use Rattle.std.specs.Prelude.{◌≡◌, ℕ, ◌+◌, ◌-◌, ◌%◌, ◌^◌, ◌≤◌, Bool, true, false, List, [], ◌∷◌, ◌++◌, pos, negsuc}
 use Rattle.ax_words.specs.declared.mark.Op.{Op}
 use Rattle.ax_words.specs.declared.mark.Op.TheVariants as op
@@ -10,7 +10,7 @@ use Rattle.ax_words.specs.declared.width.Width.TheVariants.{W32}
 use Rattle.ax_words.specs.Width.{bits_of, bytes_of}
 use Rattle.ax_target.specs.declared.target.Target.{Target}
 use Rattle.ax_target.specs.declared.decision.Way.{Way}
-use Rattle.ax_target.specs.declared.decision.Way.TheVariants.{Inline, PairLoop}
+use Rattle.ax_target.specs.declared.decision.Way.TheVariants.{Inline, Masked, PairLoop}
 use Rattle.ax_target.specs.Decisions.{decided}
 use Rattle.ax_target.specs.RvRows.{column}
 use Rattle.ax_isa.specs.declared.effects.Rest.TheVariants.{Signs}
@@ -31,6 +31,8 @@ use Rattle.ax_expand.specs.Doing.{Doing}
 use Rattle.ax_expand.specs.Shared.{Shared}
 use Rattle.ax_emit_rv.specs.Code.{Expansion, load_form, store_form}
 use Rattle.ax_emit_rv.specs.Laws.{every, is_kept}
+use Rattle.ax_mask.specs.Codes.{is_narrow, masked_expansion}
+use Rattle.ax_mask.specs.Pairs.{args_of_op, results_of_op}
 use Rattle.ax_llsc.specs.Loops.{clear, exchange_expansion, nand_expansion, size_of}
 use Rattle.ax_llsc.specs.Rounds.{Rounding, code, idle, size}
 
@@ -204,18 +206,6 @@ rounding target (PlainLoad width) = loading plain_registers (load_doing target (
 rounding target (PlainStore width) = storing plain_registers (store_doing target (bytes_of width)) width []
 
 -- the registers with what it takes, and those that get what it gives
-abbrev pub args_of_op : Op → List ℕ
-args_of_op op.Store = 11 ∷ []
-args_of_op op.Cmpxchg = 11 ∷ 12 ∷ []
-args_of_op (op.Rmw o) = 11 ∷ []
-args_of_op _ = []
-
-abbrev pub results_of_op : Op → List ℕ
-results_of_op op.Load = 15 ∷ []
-results_of_op op.Cmpxchg = 15 ∷ 16 ∷ []
-results_of_op (op.Rmw o) = 15 ∷ []
-results_of_op _ = []
-
 abbrev pub args_of : Coded → List ℕ
 args_of (Atomic o width order weak) = args_of_op o
 args_of (PlainLoad width) = []
@@ -230,15 +220,26 @@ results_of (PlainStore width) = []
 abbrev pub rounded : Rounding RvInstr → Expansion
 rounded z = record { piece = code z; size = size z; most = idle z }
 
+-- below 4 bytes by the word that holds the object, else by a loop of its own or an instruction
+abbrev pub exchange_of : Bool → Width → Order → Bool → Expansion
+exchange_of true width order weak = masked_expansion op.Cmpxchg width order weak
+exchange_of false width order weak = exchange_expansion width order weak
+
+abbrev pub update_of : Bool → Target → RmwOp → Width → Order → Bool → Expansion
+update_of true target o width order weak = masked_expansion (op.Rmw o) width order weak
+update_of false target rmw.Nand width order weak = nand_expansion width order
+update_of false target o width order weak = rounded (rounding target (Atomic (op.Rmw o) width order weak))
+
 abbrev pub expansion_of : Target → Coded → Expansion
-expansion_of target (Atomic op.Cmpxchg width order weak) = exchange_expansion width order weak
-expansion_of target (Atomic (op.Rmw rmw.Nand) width order weak) = nand_expansion width order
+expansion_of target (Atomic op.Cmpxchg width order weak) = exchange_of (is_narrow width) width order weak
+expansion_of target (Atomic (op.Rmw o) width order weak) = update_of (is_narrow width) target o width order weak
 expansion_of target x = rounded (rounding target x)
 
 -- the ways that have code here: by instructions without a loop, and by loops of linked load and pair store
 abbrev pub is_coded_way : Way → Bool
 is_coded_way Inline = true
 is_coded_way PairLoop = true
+is_coded_way Masked = true
 is_coded_way _ = false
 
 -- the way has code, at the object's own alignment

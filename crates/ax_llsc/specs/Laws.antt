@@ -25,11 +25,11 @@ use Rattle.ax_emit_rv.specs.Emitters.{AreSteady}
 use Rattle.ax_emit_rv.specs.Laws.{Accessed, Expanded}
 use Rattle.ax_llsc.specs.Codes.{Atomic, Coded, IsCoded, args_of, doing_of, expansion_of, registers_for, results_of}
 
--- EACH CODE IS AN EXPANSION of its operation on the bytes that all processors share, and idles at most 6 steps in a row
+-- EACH CODE IS AN EXPANSION of its operation on the bytes that all processors share, and idles at most 24 steps in a row
 abbrev pub DirectCodeExpands : Type 0
 DirectCodeExpands =
     (zabha zacas : Bool) (x : Coded) → IsCoded (Rv zabha zacas) x
-    → (let e = expansion_of (Rv zabha zacas) x in Expands rv_kind bytes_world e.most (registers_for x).keeps e.size e.piece (on_registers (doing_of (Rv zabha zacas) x) (registers_for x).address (args_of x) (results_of x)) × (e.most ≤ 6))
+    → (let e = expansion_of (Rv zabha zacas) x in Expands rv_kind bytes_world e.most (registers_for x).keeps e.size e.piece (on_registers (doing_of (Rv zabha zacas) x) (registers_for x).address (args_of x) (results_of x)) × (e.most ≤ 24))
 
 -- its operation has as many results as registers for them
 abbrev pub DirectOperationIsCounted : Type 0
@@ -49,7 +49,7 @@ over_bytes zabha zacas m = record m { world = bytes_world; atomic = atomic_doing
 abbrev pub DirectCodeIsExpanded : {R : Type 0} → Program R Shared → Type 0
 DirectCodeIsExpanded {R = R} m =
     (zabha zacas : Bool) (expansions : Op → Width → Order → Bool → Expansion) (most : ℕ) (o : Op) (width : Width) (order : Order) (weak : Bool) (args results : List R) → IsCoded (Rv zabha zacas) (Atomic o width order weak)
-    → expansions o width order weak ≡ expansion_of (Rv zabha zacas) (Atomic o width order weak) → length args ≡ words_taken o width → length results ≡ words_given o width → 30 ≤ most → Expanded (over_bytes zabha zacas m) expansions most o width order weak args results
+    → expansions o width order weak ≡ expansion_of (Rv zabha zacas) (Atomic o width order weak) → length args ≡ words_taken o width → length results ≡ words_given o width → 48 ≤ most → Expanded (over_bytes zabha zacas m) expansions most o width order weak args results
 
 -- AND ITS OWN INSTRUCTIONS for plain loads and stores of 1, 2, 4 and 8 bytes meet their contracts
 abbrev pub PlainAccessesAreExpanded : {R : Type 0} → Program R Shared → Type 0

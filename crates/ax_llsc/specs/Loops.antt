@@ -4,13 +4,10 @@ use Rattle.std.specs.Prelude.{ℕ, ◌+◌, Bool, true, false, ℤ, List, [], �
 use Rattle.ax_words.specs.declared.order.Order.{Order}
 use Rattle.ax_words.specs.declared.width.Width.{Width}
 use Rattle.ax_words.specs.declared.width.Width.TheVariants.{W32}
-use Rattle.ax_target.specs.RvRows.{column}
 use Rattle.ax_tags.specs.declared.tags.Tag.{Tag}
 use Rattle.ax_tags.specs.declared.tags.Tag.TheVariants.{Linked, Silent, Stored}
 use Rattle.ax_rv.specs.declared.instructions.Binary.TheVariants as binary
 use Rattle.ax_rv.specs.declared.instructions.Condition.TheVariants as condition
-use Rattle.ax_rv.specs.declared.instructions.Ending.{Ending}
-use Rattle.ax_rv.specs.declared.instructions.Ending.TheVariants.{Plain, Acquire, Release, AcquireRelease}
 use Rattle.ax_rv.specs.declared.instructions.Immediate.TheVariants as immediate
 use Rattle.ax_rv.specs.declared.instructions.RvInstr.{RvInstr}
 use Rattle.ax_rv.specs.declared.instructions.RvInstr.TheVariants.{Binary, Branch, Immediate, Jump, Li, LoadReserved, Shift, StoreConditional, Unary}
@@ -20,13 +17,7 @@ use Rattle.ax_rv.specs.declared.instructions.Size.TheVariants.{Word, Double}
 use Rattle.ax_rv.specs.declared.instructions.Unary.TheVariants as unary
 use Rattle.ax_expand.specs.Standing.{silently}
 use Rattle.ax_emit_rv.specs.Code.{Expansion}
-
--- the row of a pair: `lr; sc`, `lr.aq; sc`, `lr; sc.rl`, `lr.aq; sc.rl`, `lr.aqrl; sc.rl`
-abbrev pub link_ending : Order → Ending
-link_ending order = column order Plain Acquire Plain Acquire AcquireRelease
-
-abbrev pub store_ending : Order → Ending
-store_ending order = column order Plain Plain Release Release Release
+use Rattle.ax_mask.specs.Pairs.{link_ending, store_ending}
 
 abbrev pub size_of : Width → Size
 size_of W32 = Word

@@ -14,6 +14,7 @@ ghost use Rattle.ax_llsc.specs.Rounds.{Standing, unfinished, wrapping_at};
 
 use ax_expand::{AccessOnMachine, WrappedOperation, one_access_follows, wrapped_code_follows};
 use ax_loops::{ReplacedNumber, pair_exchange_expands, retry_loop_expands};
+use ax_mask::masked_code_expands;
 use ax_rv::RvInstr;
 
 /// The access of an operation's code, on registers that are prepared for it.
@@ -62,8 +63,8 @@ impl ReplacedNumber for LoopedOperation {
 }
 
 /// On RV64 the code of each operation that the decision table lowers inline or by a loop of a linked
-/// load and a pair store, and of each plain load and store of 1, 2, 4 or 8 bytes, is an expansion of
-/// the operation on the bytes that all processors share, whatever code stands round it and whatever
+/// load and a pair store, of the object itself or of the word that holds it, and of each plain load and
+/// store of 1, 2, 4 or 8 bytes, is an expansion of the operation on the bytes that all processors share, whatever code stands round it and whatever
 /// other processors do (RISC-V Unprivileged ISA: RV64I, and A, "Atomic Memory Operations" and
 /// "Load-Reserved/Store-Conditional Instructions"). The operation gives as many results as its code
 /// has registers for them. The memory and fence instructions of the code are the row of the mapping
@@ -75,6 +76,7 @@ pub fn direct_code_expands()
 {
     one_access_follows::<DirectAccess>();
     wrapped_code_follows::<DirectCode>();
+    masked_code_expands();
     pair_exchange_expands::<LoopedOperation>();
     retry_loop_expands::<LoopedOperation>();
 }

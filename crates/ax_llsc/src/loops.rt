@@ -3,11 +3,13 @@
 
 ghost use Rattle.std.specs.Prelude.{◌≡◌, ◌++◌, [], ◌∷◌, None, OnOk, pos};
 ghost use Rattle.ax_expand.specs.Standing.{silently};
-ghost use Rattle.ax_llsc.specs.Loops.{answer, comparand, different, exchange_code, link, nand_back, nand_code, nand_computation, pair_mark, size_of, store_ending, strong_answer, weak_answer};
+ghost use Rattle.ax_mask.specs.Pairs.{store_ending};
+ghost use Rattle.ax_llsc.specs.Loops.{answer, comparand, different, exchange_code, link, nand_back, nand_code, nand_computation, pair_mark, size_of, strong_answer, weak_answer};
 
 use crate::operations::push_clear;
-use crate::table::{ADDRESS, FREE, NUMBER, RESULT, link_ending, size_of, store_ending};
+use crate::table::{ADDRESS, FREE, NUMBER, RESULT, size_of};
 use ax_emit_rv::{Piece, push_silent};
+use ax_mask::{link_ending, store_ending};
 use ax_rv::{Binary, Condition, Immediate, RvInstr, Unary};
 use ax_tags::Tag;
 use ax_words::{Order, Width};

@@ -14,6 +14,7 @@ use crate::table::{
     fence_instr, load_form, operand_of, size_of, store_form,
 };
 use ax_emit_rv::{OperationEmitter, Piece, push_acting, push_silent};
+use ax_mask::{is_narrow, push_masked};
 use ax_rv::{FenceSets, Immediate, RvInstr, Shift, Unary};
 use ax_tags::Tag;
 use ax_target::Target;
@@ -148,10 +149,10 @@ fn push_update(out: &mut Piece, op: RmwOp, width: Width, order: Order) -> Result
     Ok(())
 }
 
-/// The code of operations that call no routine, where the way of a target is Inline or PairLoop:
-/// single instructions (RISC-V Unprivileged ISA: RV64I, and A, "Atomic Memory Operations"), and for a
-/// compare-exchange and a nand loops of a linked load and a pair store
-/// ("Load-Reserved/Store-Conditional Instructions").
+/// The code of operations that call no routine, where the way of a target is Inline, PairLoop or
+/// Masked: single instructions (RISC-V Unprivileged ISA: RV64I, and A, "Atomic Memory Operations"), and
+/// for a compare-exchange and a nand loops of a linked load and a pair store
+/// ("Load-Reserved/Store-Conditional Instructions"), as for all that reads and writes 1 or 2 bytes.
 #[derive(Clone, Copy)]
 pub struct DirectOperations {
     pub target: Target,
@@ -170,13 +171,15 @@ impl OperationEmitter for DirectOperations {
         out: &mut Vec<(RvInstr, Tag)>,
     ) -> Result<(), AllocError> {
         match op {
-            Op::Load => push_load(out, width, order)?,
-            Op::Store => push_store(out, width, order)?,
-            Op::Cmpxchg => push_exchange(out, width, order, weak)?,
-            Op::Rmw(RmwOp::Nand) => push_nand(out, width, order)?,
-            Op::Rmw(op) => push_update(out, op, width, order)?,
-            Op::Fence => push_acting(out, fence_instr(order))?,
+            Op::Load => push_load(out, width, order),
+            Op::Store => push_store(out, width, order),
+            Op::Cmpxchg | Op::Rmw(_) if is_narrow(width) => {
+                push_masked(op, width, order, weak, out)
+            }
+            Op::Cmpxchg => push_exchange(out, width, order, weak),
+            Op::Rmw(RmwOp::Nand) => push_nand(out, width, order),
+            Op::Rmw(op) => push_update(out, op, width, order),
+            Op::Fence => push_acting(out, fence_instr(order)),
         }
-        Ok(())
     }
 }

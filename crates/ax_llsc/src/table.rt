@@ -4,7 +4,7 @@
 ghost use Rattle.std.specs.Prelude.{◌≡◌, option_to_list};
 ghost use Rattle.ax_words.specs.Width.{bytes_of};
 ghost use Rattle.ax_emit_rv.specs.Code as emission;
-ghost use Rattle.ax_llsc.specs.Loops.{link_ending, size_of, store_ending};
+ghost use Rattle.ax_llsc.specs.Loops.{size_of};
 ghost use Rattle.ax_llsc.specs.Codes.{amo_of, before_load, before_store, behind_load, ending_of, fence_instr, operand_of};
 
 use ax_rv::{Amo, Ending, FenceSets, LoadForm, RvInstr, Size, StoreForm};
@@ -72,27 +72,6 @@ pub(crate) fn ending_of(order: Order) -> Ending
         Order::Acquire => Ending::Acquire,
         Order::Release => Ending::Release,
         Order::AcqRel | Order::SeqCst => Ending::AcquireRelease,
-    }
-}
-
-/// The order ending of a linked load.
-pub(crate) fn link_ending(order: Order) -> Ending
-    ensures { result ≡ link_ending order }
-{
-    match order {
-        Order::Unordered | Order::Monotonic | Order::Release => Ending::Plain,
-        Order::Acquire | Order::AcqRel => Ending::Acquire,
-        Order::SeqCst => Ending::AcquireRelease,
-    }
-}
-
-/// The order ending of its pair store.
-pub(crate) fn store_ending(order: Order) -> Ending
-    ensures { result ≡ store_ending order }
-{
-    match order {
-        Order::Unordered | Order::Monotonic | Order::Acquire => Ending::Plain,
-        Order::Release | Order::AcqRel | Order::SeqCst => Ending::Release,
     }
 }
 

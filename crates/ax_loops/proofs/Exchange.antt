@@ -13,8 +13,8 @@ use Rattle.ax_isa.specs.declared.effects.Effect.TheVariants.{Link, PairStore}
 use Rattle.ax_isa.specs.declared.effects.Outcome.{Outcome}
 use Rattle.ax_isa.specs.Past.{Noted}
 use Rattle.ax_isa.specs.Processor.{Processor}
-use Rattle.ax_isa.specs.Steps.{Kind, extended, go_with, loaded, paired}
-use Rattle.ax_isa.specs.Tells.{Nothing, An_act, A_look, A_miss, Given, Library, Done, holder_after, is_excused, is_freeing, look_if, told, told_of}
+use Rattle.ax_isa.specs.Steps.{Kind, extended, go_with, paired}
+use Rattle.ax_isa.specs.Tells.{Nothing, An_act, A_look, A_miss, Given, Library, Done, holder_after, is_excused, is_freeing, look_if, masked_by, told, told_of}
 use Rattle.ax_isa.specs.Run.{Setting, idle_after, step}
 use Rattle.ax_isa.proofs.Functions.{at_same, at_other}
 use Rattle.ax_follow.specs.Contract.{ByOthers, ByOwn, Did, Happening, InStep, Meaning, OwnStep, Possible, Reading, Stage, Steppable, Steps, Through, done_after, outcome_of, stage_after, stage_start}
@@ -31,7 +31,7 @@ use Rattle.ax_expand.proofs.Single.{not_over}
 use Rattle.ax_expand.proofs.Straight.{silent_length}
 use Rattle.ax_expand.proofs.Telling.{told_hushed}
 use Rattle.ax_expand.proofs.Views.{spells_others, spells_write}
-use Rattle.ax_loops.specs.Exchanging.{Exchange, Gives}
+use Rattle.ax_loops.specs.Exchanging.{Exchange, Gives, Stores}
 use Rattle.ax_loops.specs.PairExchange.{AtPair, Exchanges, Fails, HasLinked, IsBack, IsThrough, PairExchange, exchange_code, exchange_size, pair_mark}
 use Rattle.ax_loops.specs.Replacing.{Wrote}
 use Rattle.ax_loops.specs.Ways.{Laid, Onward, Way}
@@ -71,9 +71,6 @@ hushed_nothing false = refl
 look_grows : (excused : Bool) (n : ℕ) → idle_after A_look excused n ≤ n + 1
 look_grows true n = omega arith
 look_grows false n = omega arith
-
-cut_small : (v m : ℕ) → v < m → v % m ≡ v
-cut_small v m h = grind (arith)
 
 module _ {I W : Type 0} (k : Kind I) (world : World W) (laws : Lawful world) (keeps : ℕ → Bool) (o : Operation W) (r : Exchange W) (z : PairExchange I) (h : Exchanges k keeps o r z world) where
   module _ (code : List I) (tags : ℕ → Tag) (lib : Library) (u : Reading) (quiet : Bool) (own start : ℕ) (frames : ℕ → ℕ → ℕ) (words : Words lib) (few : z.most ≤ u.most) (has : HasAt (setting_by k code tags lib) (reading_of u) quiet own start (exchange_code z)) (p : ℕ) where
@@ -123,7 +120,7 @@ module _ {I W : Type 0} (k : Kind I) (world : World W) (laws : Lawful world) (ke
     room_at (i ∷ is) place q small = (let here = q.0.small in let e = room_at is (place + 1) q.1 here in omega (arith, e))
 
     room : end < 2 ^ 32
-    room = (let here = has.0.small in let e = room_at (exchange_code z) start has (let f : start < 2 ^ 32 = omega (arith, here) in f) in let f = exchange_length z.between z.behind (z.link, Linked z.weak z.expected None) (z.pair, pair_mark z.weak) in omega (arith, e, f))
+    room = (let here = has.0.small in let e = room_at (exchange_code z) start has (let f : start < 2 ^ 32 = omega (arith, here) in f) in let f = exchange_length z.between z.behind (z.link, Linked z.weak z.expected z.mask) (z.pair, pair_mark z.weak) in omega (arith, e, f))
 
     abbrev Where : Bool → Processor → Type 0
     Where acted b = (b.place < 2 ^ 32) × ((v.owner b.place ≡ own) ⊎ ((acted ≡ true) × (b.place ≡ end)))
@@ -134,8 +131,8 @@ module _ {I W : Type 0} (k : Kind I) (world : World W) (laws : Lawful world) (ke
     where_back : (acted : Bool) (regs : ℕ → ℕ) (b : Processor) → IsBack k keeps o r z start regs b → Where acted b
     where_back acted regs b q = (subst (λ m. m < 2 ^ 32) (sym q.place) (let here = has.0.small in let e : start < 2 ^ 32 = omega (arith, here) in e), inl (ap v.owner q.place ∙ has.0.owner))
 
-    where_pair : (acted : Bool) (regs : ℕ → ℕ) (b : Processor) → AtPair k keeps o r z start regs b → Where acted b
-    where_pair acted regs b q = (subst (λ m. m < 2 ^ 32) (sym q.place) (let here = has_pair.small in let e : start + (many + 1) < 2 ^ 32 = omega (arith, here) in e), inl (ap v.owner q.place ∙ has_pair.owner))
+    where_pair : (acted : Bool) (regs : ℕ → ℕ) (number : ℕ) (b : Processor) → AtPair k keeps o r z start regs number b → Where acted b
+    where_pair acted regs number b q = (subst (λ m. m < 2 ^ 32) (sym q.place) (let here = has_pair.small in let e : start + (many + 1) < 2 ^ 32 = omega (arith, here) in e), inl (ap v.owner q.place ∙ has_pair.owner))
 
     abbrev Out : (ℕ → ℕ) → ℕ → Processor → Type 0
     Out after steps c = Way all (λ b. IsThrough k keeps o r z start after b) steps c
@@ -143,8 +140,8 @@ module _ {I W : Type 0} (k : Kind I) (world : World W) (laws : Lawful world) (ke
     abbrev Back : (ℕ → ℕ) → ℕ → Processor → Type 0
     Back regs steps c = Way all (λ b. IsBack k keeps o r z start regs b) steps c
 
-    abbrev Forth : (ℕ → ℕ) → ℕ → Processor → Type 0
-    Forth regs steps c = Way all (λ b. AtPair k keeps o r z start regs b) steps c
+    abbrev Forth : (ℕ → ℕ) → ℕ → ℕ → Processor → Type 0
+    Forth regs number steps c = Way all (λ b. AtPair k keeps o r z start regs number b) steps c
 
     out_stays : (after : ℕ → ℕ) (steps : ℕ) (c : Processor) → Out after steps c → Where true c
     out_stays after steps c q = way_stays all ground has (λ b. IsThrough k keeps o r z start after b) true end (where_through after) steps c q
@@ -152,35 +149,37 @@ module _ {I W : Type 0} (k : Kind I) (world : World W) (laws : Lawful world) (ke
     back_stays : (acted : Bool) (regs : ℕ → ℕ) (steps : ℕ) (c : Processor) → Back regs steps c → Where acted c
     back_stays acted regs steps c q = way_stays all ground has (λ b. IsBack k keeps o r z start regs b) acted end (where_back acted regs) steps c q
 
-    forth_stays : (acted : Bool) (regs : ℕ → ℕ) (steps : ℕ) (c : Processor) → Forth regs steps c → Where acted c
-    forth_stays acted regs steps c q = way_stays all ground has (λ b. AtPair k keeps o r z start regs b) acted end (where_pair acted regs) steps c q
+    forth_stays : (acted : Bool) (regs : ℕ → ℕ) (number steps : ℕ) (c : Processor) → Forth regs number steps c → Where acted c
+    forth_stays acted regs number steps c q = way_stays all ground has (λ b. AtPair k keeps o r z start regs number b) acted end (where_pair acted regs number) steps c q
 
-    record Found (t : Inner) (n : Noted) : Type 0 where
+    -- a word of this number was linked, in which the object has the expected one
+    record Found (t : Inner) (number : ℕ) (n : Noted) : Type 0 where
       pub aligned : r.address t.regs % r.bytes ≡ 0
-      pub stands : Reserved p (r.address t.regs) r.bytes (r.expected t.regs) n
+      pub stands : Reserved p (r.address t.regs) r.bytes number n
+      pub same : r.part t.regs number ≡ r.expected t.regs
       pub seen : z.weak ≡ true → t.seen ≡ Some (r.expected t.regs)
 
     data Inv : Stage → Inner → Processor → Noted → Type 0 where
       Linking : {j : Stage} {t : Inner} {c : Processor} {n : Noted} → Waiting piece j t c n → IsBack k keeps o r z start t.regs c → j.idle ≤ z.back → Inv j t c n
-      Pairing : {j : Stage} {t : Inner} {c : Processor} {n : Noted} (steps : ℕ) → Waiting piece j t c n → Found t n → Forth t.regs steps c → j.idle + steps ≤ z.most → Inv j t c n
+      Pairing : {j : Stage} {t : Inner} {c : Processor} {n : Noted} (number steps : ℕ) → Waiting piece j t c n → Found t number n → Forth t.regs number steps c → j.idle + steps ≤ z.most → Inv j t c n
       Returning : {j : Stage} {t : Inner} {c : Processor} {n : Noted} (steps : ℕ) → Waiting piece j t c n → Back t.regs steps c → j.idle + steps ≤ z.back → Inv j t c n
       Leaving : {j : Stage} {t : Inner} {c : Processor} {n : Noted} (steps : ℕ) → j.acted ≡ true → t.over ≡ true → c.role ≡ Outside → Spells p n (frames p) → Out t.regs steps c → j.idle + steps ≤ z.most → Inv j t c n
 
     leaving_through : (j : Stage) (t : Inner) (c : Processor) (n : Noted) (steps : ℕ) → t.over ≡ true → c.role ≡ Outside → Spells p n (frames p) → Out t.regs steps c → c.place ≡ l.begins t → Alone keeps frames p c n t
     leaving_through j t c n zero over role spells q there = record { regs = q.gives; role = role; frame = spells }
     leaving_through j t c n (suc steps) over role spells q there =
-        absurd (let at = q.place in let inside = in_code (exchange_code z) q.offset (q.instr, Silent) q.stands in let ends = begins_behind piece t over in let size = exchange_length z.between z.behind (z.link, Linked z.weak z.expected None) (z.pair, pair_mark z.weak) in omega (arith, at, inside, ends, there, size))
+        absurd (let at = q.place in let inside = in_code (exchange_code z) q.offset (q.instr, Silent) q.stands in let ends = begins_behind piece t over in let size = exchange_length z.between z.behind (z.link, Linked z.weak z.expected z.mask) (z.pair, pair_mark z.weak) in omega (arith, at, inside, ends, there, size))
 
     through : (j : Stage) (t : Inner) (c : Processor) (n : Noted) → Inv j t c n → Through l v x p j t c n
     through j t c n (Linking y b idle) acted there = absurd (false≢true (sym y.acted ∙ acted))
-    through j t c n (Pairing steps y f q idle) acted there = absurd (false≢true (sym y.acted ∙ acted))
+    through j t c n (Pairing number steps y f q idle) acted there = absurd (false≢true (sym y.acted ∙ acted))
     through j t c n (Returning steps y q idle) acted there = absurd (false≢true (sym y.acted ∙ acted))
     through j t c n (Leaving steps a over role spells q idle) acted there = leaving_through j t c n steps over role spells q there
 
     others : (j : Stage) (t : Inner) (c : Processor) (n new : Noted) → ByOthers p n new → Inv j t c n → Inv j t c new
     others j t c n new b (Linking y q idle) = Linking (waiting_others piece j t c n new b y) q idle
-    others j t c n new b (Pairing steps y f q idle) =
-        Pairing steps (waiting_others piece j t c n new b y) (record { aligned = f.aligned; stands = reserved_others p (r.address t.regs) r.bytes (r.expected t.regs) n new h.exchange.width f.aligned b f.stands; seen = f.seen }) q idle
+    others j t c n new b (Pairing number steps y f q idle) =
+        Pairing number steps (waiting_others piece j t c n new b y) (record { aligned = f.aligned; stands = reserved_others p (r.address t.regs) r.bytes number n new h.exchange.width f.aligned b f.stands; same = f.same; seen = f.seen }) q idle
     others j t c n new b (Returning steps y q idle) = Returning steps (waiting_others piece j t c n new b y) q idle
     others j t c n new b (Leaving steps a over role spells q idle) = Leaving steps a over role (spells_others p n new (frames p) b spells) q idle
 
@@ -252,15 +251,15 @@ module _ {I W : Type 0} (k : Kind I) (world : World W) (laws : Lawful world) (ke
         (⊎_elim (λ f. inl f) (λ f. inr (f.0, f.1 ∙ sym (begins_behind piece t (over f.0)))) there.1) (omega (arith, idle, few))
         (λ gives moved. next moved.processor (ap (λ m. m.role) moved.processor ∙ moved.role) moved.storage moved.last moved.lost (moved_still lib (tags c.place) p e c q.after n d moved gives))
 
-    forth_step : (j : Stage) (t : Inner) (c : Processor) (n : Noted) (w : W) (steps : ℕ) → Waiting piece j t c n → Found t n → Forth t.regs (suc steps) c → j.idle + suc steps ≤ z.most → Steppable l v x p j t c n w → Mine j t c n w
-    forth_step j t c n w steps y f q idle may =
-        way_step j t c n w q (forth_stays j.acted t.regs steps q.after q.next) y.role (λ a. absurd (false≢true (sym y.acted ∙ a))) (omega (arith, idle)) may
+    forth_step : (j : Stage) (t : Inner) (c : Processor) (n : Noted) (w : W) (number steps : ℕ) → Waiting piece j t c n → Found t number n → Forth t.regs number (suc steps) c → j.idle + suc steps ≤ z.most → Steppable l v x p j t c n w → Mine j t c n w
+    forth_step j t c n w number steps y f q idle may =
+        way_step j t c n w q (forth_stays j.acted t.regs number steps q.after q.next) y.role (λ a. absurd (false≢true (sym y.acted ∙ a))) (omega (arith, idle)) may
         (λ now role storage last lost still.
         let d = leaves x l v p (k.effect_of q.instr c) c n in
         let grows = idle_grows (is_excused d) j.idle in
-        Pairing steps (waiting_still piece j (stage_after Nothing (is_excused d) j) t c n d refl role still y)
-        (record { aligned = f.aligned; stands = reserved_own p (r.address t.regs) r.bytes (r.expected t.regs) n d.noted storage last lost f.stands; seen = f.seen })
-        (subst (λ b. Forth t.regs steps b) (sym now) q.next) (omega (arith, grows, idle)))
+        Pairing number steps (waiting_still piece j (stage_after Nothing (is_excused d) j) t c n d refl role still y)
+        (record { aligned = f.aligned; stands = reserved_own p (r.address t.regs) r.bytes number n d.noted storage last lost f.stands; same = f.same; seen = f.seen })
+        (subst (λ b. Forth t.regs number steps b) (sym now) q.next) (omega (arith, grows, idle)))
 
     back_step : (j : Stage) (t : Inner) (c : Processor) (n : Noted) (w : W) (steps : ℕ) → Waiting piece j t c n → Back t.regs (suc steps) c → j.idle + suc steps ≤ z.back → Steppable l v x p j t c n w → Mine j t c n w
     back_step j t c n w steps y q idle may =
@@ -294,7 +293,11 @@ module _ {I W : Type 0} (k : Kind I) (world : World W) (laws : Lawful world) (ke
       d = leaves x l v p link c n
 
       abbrev mark : Tag
-      mark = Linked z.weak z.expected None
+      mark = Linked z.weak z.expected z.mask
+
+      -- the object in it, and what is expected of it
+      abbrev part : ℕ
+      part = r.part t.regs number
 
       abbrev expected : ℕ
       expected = r.expected t.regs
@@ -338,28 +341,28 @@ module _ {I W : Type 0} (k : Kind I) (world : World W) (laws : Lawful world) (ke
 
       -- the two numbers that its mark compares
       abbrev test : Bool
-      test = nat_eq (number % 2 ^ (8 * r.bytes)) (c.regs z.expected % 2 ^ (8 * r.bytes))
+      test = nat_eq (masked_by z.mask r.bytes c number) (masked_by z.mask r.bytes c (c.regs z.expected))
 
-      test_is : test ≡ nat_eq number expected
-      test_is =
-          ap (λ m. nat_eq m (c.regs z.expected % 2 ^ (8 * r.bytes))) (cut_small number (2 ^ (8 * r.bytes)) small)
-          ∙ ap (λ m. nat_eq number (m % 2 ^ (8 * r.bytes))) (b.holds z.expected h.expects)
-          ∙ ap (nat_eq number) (h.expected t.regs w fit)
+      test_is : test ≡ nat_eq part expected
+      test_is = h.compares c t.regs number w fit b.holds small
 
-      apart : test ≡ false → number ≢ expected
-      apart e same = false≢true (sym e ∙ test_is ∙ eq-eqb number expected same)
+      apart : test ≡ false → part ≢ expected
+      apart e same = false≢true (sym e ∙ test_is ∙ eq-eqb part expected same)
 
-      equal : test ≡ true → number ≡ expected
-      equal e = eqb-true number expected (sym test_is ∙ e)
+      equal : test ≡ true → part ≡ expected
+      equal e = eqb-true part expected (sym test_is ∙ e)
+
+      part_found : part ≡ r.part t.regs (r.finds t.regs w)
+      part_found = ap (r.part t.regs) link_found
 
       abbrev Made : Given → Type 0
       Made g = Possible (outcome_of l g p t w) (λ s. OwnStep l v Inv p j t c n d g s)
 
       differing : test ≡ false → Made An_act
       differing e =
-          let Q : Deed W → Type 0 = λ s. Gives s (r.gives t.regs (r.finds t.regs w) false) × world.sees n s.world in
+          let Q : Deed W → Type 0 = λ s. Gives s (r.gives t.regs (r.part t.regs (r.finds t.regs w)) false) × world.sees n s.world in
           let way = h.differs start d.processor t.regs number w fit linked (apart e) in
-          let there = out_stays (r.gives t.regs number false) way.steps d.processor way.way in
+          let there = out_stays (r.gives t.regs part false) way.steps d.processor way.way in
           let less = way.few in
           unless_over t.over (did_of quiet An_act (o.happens An_act p t.regs t.seen w)) (λ s. OwnStep l v Inv p j t c n d An_act s) y.over
           (deeds An_act j t c n w d Q (o.happens An_act p t.regs t.seen w) may
@@ -376,9 +379,9 @@ module _ {I W : Type 0} (k : Kind I) (world : World W) (laws : Lawful world) (ke
             output = refl;
             none = q.0.output;
             status = refl;
-            next = Leaving way.steps refl refl y.role link_spells (subst (λ m. Out m way.steps d.processor) (ap (λ m. r.gives t.regs m false) link_found ∙ sym q.0.regs) way.way) (omega (arith, less));
+            next = Leaving way.steps refl refl y.role link_spells (subst (λ m. Out m way.steps d.processor) (ap (λ m. r.gives t.regs m false) part_found ∙ sym q.0.regs) way.way) (omega (arith, less));
           })
-          (h.exchange.differs p n t.regs t.seen w may.sees (may.flat h.unbuffered) fit (λ same. apart e (link_found ∙ same))))
+          (h.exchange.differs p n t.regs t.seen w may.sees (may.flat h.unbuffered) fit (λ same. apart e (part_found ∙ same))))
 
       owner_next : v.owner d.processor.place ≡ own
       owner_next = ap v.owner (ap (λ q. q + 1) b.place) ∙ behind_link
@@ -389,29 +392,29 @@ module _ {I W : Type 0} (k : Kind I) (world : World W) (laws : Lawful world) (ke
 
       heads : (i : Stage) (s : Inner) → i.acted ≡ false → s.over ≡ false → s.regs ≡ t.regs → (z.weak ≡ true → s.seen ≡ Some expected) → i.idle ≤ j.idle + 1 → test ≡ true → Rests i s
       heads i s acted over regs seen grows e =
-          let is = equal e in
-          let to = h.equals start d.processor t.regs w fit (subst (λ m. HasLinked k keeps o r z start t.regs m d.processor) is linked) in
+          let to = h.equals start d.processor t.regs number w fit linked (equal e) in
           let less = to.few in
           let more = to.leads.few in
-          Pairing to.leads.steps (record { acted = acted; over = over; role = y.role; frame = link_spells })
+          Pairing number to.leads.steps (record { acted = acted; over = over; role = y.role; frame = link_spells })
           (record {
             aligned = ap (λ f. r.address f % r.bytes) regs ∙ h.exchange.aligned t.regs w fit;
-            stands = subst (λ f. Reserved p (r.address f) r.bytes (r.expected f) d.noted) (sym regs)
+            stands = subst (λ f. Reserved p (r.address f) r.bytes number d.noted) (sym regs)
                 (record {
-                  stays = λ stands. is;
+                  stays = λ stands. refl;
                   last = at_same n.past.last p (Some (reserved a r.bytes));
                   alive = inl (at_same n.storage.linked p (Some (reserved a r.bytes)));
                 });
+            same = ap (λ f. r.part f number) regs ∙ equal e ∙ ap r.expected (sym regs);
             seen = λ f. seen f ∙ ap (λ m. Some (r.expected m)) (sym regs);
           })
-          (subst (λ m. Forth m to.leads.steps d.processor) (sym regs) to.leads.way) (omega (arith, grows, idle, less, more))
+          (subst (λ m. Forth m number to.leads.steps d.processor) (sym regs) to.leads.way) (omega (arith, grows, idle, less, more))
 
       to_few : test ≡ true → j.idle + 1 ≤ z.most
       to_few e = (let less = h.few in omega (arith, idle, less))
 
       looking : z.weak ≡ true → test ≡ true → Made A_look
       looking weak e =
-          let Q : Deed W → Type 0 = λ s. (s.seen ≡ Some (r.finds t.regs w)) × (Gives s t.regs × world.sees n s.world) in
+          let Q : Deed W → Type 0 = λ s. (s.seen ≡ Some (r.part t.regs (r.finds t.regs w))) × (Gives s t.regs × world.sees n s.world) in
           let grows : idle_after A_look (is_excused d) j.idle ≤ j.idle + 1 = look_grows (is_excused d) j.idle in
           let less = to_few e in
           unless_over t.over (did_of quiet A_look (o.happens A_look p t.regs t.seen w)) (λ s. OwnStep l v Inv p j t c n d A_look s) y.over
@@ -429,7 +432,7 @@ module _ {I W : Type 0} (k : Kind I) (world : World W) (laws : Lawful world) (ke
             output = refl;
             none = q.1.0.output;
             status = refl;
-            next = heads (stage_after A_look (is_excused d) j) (above A_look s) y.acted refl q.1.0.regs (λ f. q.0 ∙ ap Some (sym link_found ∙ equal e)) grows e;
+            next = heads (stage_after A_look (is_excused d) j) (above A_look s) y.acted refl q.1.0.regs (λ f. q.0 ∙ ap Some (sym part_found ∙ equal e)) grows e;
           })
           (h.exchange.looks weak p n t.regs t.seen w may.sees fit))
 
@@ -453,19 +456,22 @@ module _ {I W : Type 0} (k : Kind I) (world : World W) (laws : Lawful world) (ke
           go false weak e f = differing e
 
     -- the pair store
-    module _ (j : Stage) (t : Inner) (c : Processor) (n : Noted) (w : W) (y : Waiting piece j t c n) (f : Found t n) (q : AtPair k keeps o r z start t.regs c) (idle : j.idle + 0 ≤ z.most) (may : Steppable l v x p j t c n w) where
+    module _ (j : Stage) (t : Inner) (c : Processor) (n : Noted) (w : W) (number : ℕ) (y : Waiting piece j t c n) (f : Found t number n) (q : AtPair k keeps o r z start t.regs number c) (idle : j.idle + 0 ≤ z.most) (may : Steppable l v x p j t c n w) where
       abbrev spot : ℕ
       spot = r.address t.regs
 
       abbrev sought : ℕ
       sought = r.expected t.regs
 
+      abbrev stored : ℕ
+      stored = r.leaves t.regs number
+
       abbrev store : Effect
-      store = PairStore z.failed spot r.bytes (r.desired t.regs)
+      store = PairStore z.failed spot r.bytes stored
 
       -- what it leaves where it writes, or doesn't
       abbrev done_if : Bool → Done
-      done_if b = told lib (tags c.place) p store c n (paired b p z.failed spot r.bytes (r.desired t.regs) c n)
+      done_if b = told lib (tags c.place) p store c n (paired b p z.failed spot r.bytes stored c n)
 
       abbrev Led : Bool → Given → Type 0
       Led b g = Possible (outcome_of l g p t w) (λ s. OwnStep l v Inv p j t c n (done_if b) g s)
@@ -485,8 +491,8 @@ module _ {I W : Type 0} (k : Kind I) (world : World W) (laws : Lawful world) (ke
       wrote : may_pair p spot r.bytes n.storage ≡ true → Led true An_act
       wrote b =
           let d = done_if true in
-          let entry = entry_of spot r.bytes (r.desired t.regs) in
-          let finds : r.finds t.regs w ≡ sought = sym (h.exchange.found n t.regs w may.sees pair_fit) ∙ f.stands.stays (may_stands p spot r.bytes n.storage b) in
+          let entry = entry_of spot r.bytes stored in
+          let finds : r.finds t.regs w ≡ number = sym (h.exchange.found n t.regs w may.sees pair_fit) ∙ f.stands.stays (may_stands p spot r.bytes n.storage b) in
           let below = h.exchange.below t.regs w pair_fit in
           let Q : Deed W → Type 0 = λ s. Gives s (r.gives t.regs sought true) × ((lib : Library) (new : Noted) → Wrote lib p entry n new → world.sees new s.world) in
           let written : Wrote lib p entry n d.noted = record { inside = refl; mem = refl; waiting = refl; holder = λ word. ap (λ m. holder_after lib p m n.storage.mem d.noted.storage.mem n.past.holder word) pair_freed } in
@@ -509,13 +515,13 @@ module _ {I W : Type 0} (k : Kind I) (world : World W) (laws : Lawful world) (ke
             status = refl;
             next = Leaving q.done.steps refl refl y.role (spells_write p entry n (frames p) below y.frame) (subst (λ g. Out g q.done.steps d.processor) (sym m.0.regs) q.done.way) (omega (arith, less));
           })
-          (h.exchange.stores p n t.regs t.seen w may.sees (may.flat h.unbuffered) pair_fit finds))
+          (subst (λ m. Happens (o.happens An_act p t.regs t.seen w) (λ s. Stores world r n p t.regs m s)) finds (h.exchange.stores p n t.regs t.seen w may.sees (may.flat h.unbuffered) pair_fit (ap (r.part t.regs) finds ∙ f.same))))
 
       pair_unwritten : Unwritten lib (tags c.place) p n (done_if false).noted
       pair_unwritten = record { inside = refl; mem = refl; waiting = refl; holder = refl }
 
       lost_is : may_pair p spot r.bytes n.storage ≡ false → (done_if false).lost ≡ true
-      lost_is b = failed_lost p spot r.bytes sought n b f.stands
+      lost_is b = failed_lost p spot r.bytes number n b f.stands
 
       excused_is : may_pair p spot r.bytes n.storage ≡ false → is_excused (done_if false) ≡ true
       excused_is b = ap (λ m. (m || (done_if false).overtaken) || (done_if false).busy) (lost_is b)
@@ -571,8 +577,8 @@ module _ {I W : Type 0} (k : Kind I) (world : World W) (laws : Lawful world) (ke
 
     own_step : (j : Stage) (t : Inner) (c : Processor) (n : Noted) (w : W) → Inv j t c n → Steppable l v x p j t c n w → Mine j t c n w
     own_step j t c n w (Linking y b idle) may = link_step j t c n w y b idle may
-    own_step j t c n w (Pairing zero y f q idle) may = pair_step j t c n w y f q idle may
-    own_step j t c n w (Pairing (suc steps) y f q idle) may = forth_step j t c n w steps y f q idle may
+    own_step j t c n w (Pairing number zero y f q idle) may = pair_step j t c n w number y f q idle may
+    own_step j t c n w (Pairing number (suc steps) y f q idle) may = forth_step j t c n w number steps y f q idle may
     own_step j t c n w (Returning zero y q idle) may = link_step j t c n w y q (omega (arith, idle)) may
     own_step j t c n w (Returning (suc steps) y q idle) may = back_step j t c n w steps y q idle may
     own_step j t c n w (Leaving zero acted over role spells q idle) may = absurd (may.inner acted (q.place ∙ sym (begins_behind piece t over)))
@@ -590,7 +596,7 @@ module _ {I W : Type 0} (k : Kind I) (world : World W) (laws : Lawful world) (ke
   pub exchange_expands : Expands k world z.most keeps (exchange_size z) (λ start. exchange_code z) o
   exchange_expands =
       record {
-        length_is = λ start. exchange_length z.between z.behind (z.link, Linked z.weak z.expected None) (z.pair, pair_mark z.weak);
+        length_is = λ start. exchange_length z.between z.behind (z.link, Linked z.weak z.expected z.mask) (z.pair, pair_mark z.weak);
         some = omega arith;
         follows = λ code tags lib u quiet own start frames words few has. record { follows = λ p t c n is runs at m hs. entered code tags lib u quiet own start frames words few has p t c n is at m hs };
       }

@@ -1,8 +1,10 @@
 -- Registers that are kept, scratch registers, and the one that gets the result.
-use Rattle.std.proofs.Common.{◌≡◌, ℕ, ◌%◌, ◌^◌, ◌<◌, Bool, true, false, refl, sym, ap, ◌∙◌, subst, ⊎_elim, arith}
+use Rattle.std.proofs.Common.{◌≡◌, ℕ, ◌*◌, ◌%◌, ◌^◌, ◌<◌, Bool, true, false, None, refl, sym, ap, ◌∙◌, subst, ⊎_elim, arith}
 use Rattle.std.specs.Prelude.{◌≢◌, ◌&&◌, not, nat_eq}
 use Rattle.std.proofs.lemmas.Bool.{cases_eq, eq-eqb, false≢true, ne_eqb}
 use Rattle.ax_store.specs.Storage.{at_place}
+use Rattle.ax_isa.specs.Processor.{Processor}
+use Rattle.ax_isa.specs.Tells.{masked_by}
 use Rattle.ax_isa.proofs.Functions.{at_same, at_other}
 use Rattle.ax_expand.specs.Operation.{Keeps}
 use Rattle.ax_loops.specs.Registers.{all_but}
@@ -13,6 +15,14 @@ both false b h = absurd (false≢true h)
 
 pub cut_same : (v : ℕ) → v < 2 ^ 64 → v % 2 ^ 64 ≡ v
 cut_same v h = grind (arith)
+
+cut_small : (v m : ℕ) → v < m → v % m ≡ v
+cut_small v m h = grind (arith)
+
+-- without a mask a linked load's mark compares the whole number
+pub compares_whole : (bytes number expected : ℕ) (c : Processor) (regs : ℕ → ℕ) → c.regs expected ≡ regs expected → number < 2 ^ (8 * bytes)
+    → nat_eq (masked_by None bytes c number) (masked_by None bytes c (c.regs expected)) ≡ nat_eq number (regs expected % 2 ^ (8 * bytes))
+compares_whole bytes number expected c regs same small = ap (λ m. nat_eq m (c.regs expected % 2 ^ (8 * bytes))) (cut_small number (2 ^ (8 * bytes)) small) ∙ ap (λ m. nat_eq number (m % 2 ^ (8 * bytes))) same
 
 module _ (keeps : ℕ → Bool) (result : ℕ) where
   pub apart : (q : ℕ) → all_but result keeps q ≡ true → (keeps q ≡ true) × (q ≢ result)

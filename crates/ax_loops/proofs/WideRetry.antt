@@ -1,6 +1,6 @@
 -- A retry loop over 16 bytes meets its contract: one event, and each retry is excused.
 use Rattle.std.proofs.Common.{◌≡◌, ℕ, zero, suc, ◌+◌, ◌*◌, ◌%◌, ◌^◌, ◌<◌, ◌≤◌, Bool, true, false, List, [], ◌∷◌, ◌++◌, length, Some, None, refl, sym, ap, ◌∙◌, subst, inl, inr, ⊎_elim, arith}
-use Rattle.std.specs.Prelude.{if◌then◌else◌, ◌≢◌, ◌⊎◌, ◌&&◌, ◌||◌}
+use Rattle.std.specs.Prelude.{if◌then◌else◌, ◌⊎◌, ◌&&◌, ◌||◌}
 use Rattle.std.proofs.lemmas.Bool.{false≢true}
 use Rattle.ax_store.specs.Bytes.{all_inside, number_at}
 use Rattle.ax_store.specs.Storage.{entry_of, load, may_pair, newest}

@@ -56,8 +56,9 @@ pub fn compare_loop_expands<N: ReplacedNumber>()
         → Expands N.kind N.world (compare_most loop) keeps (compare_size loop) (λ start. compare_code loop) (N.operation case) }
 {}
 
-/// A linked load, a way out where it found another number than the expected one, and a pair store
-/// are an expansion of a compare-exchange (RISC-V A extension, "Load-Reserved/Store-Conditional
+/// A linked load of a word, a way out where the object in it is not the expected number, and a pair
+/// store of the word that is to be left are an expansion of a compare-exchange of that object, which
+/// is the word or a part of it under a mask (RISC-V A extension, "Load-Reserved/Store-Conditional
 /// Instructions"; Arm ARM, exclusive monitors; LLVM Language Reference, "cmpxchg"). By the contract
 /// the event is made once: by the linked load where the numbers differ, else by the pair store. Where
 /// that fails a strong exchange goes back to the linked load; a weak one, which has looked there,

@@ -87,7 +87,7 @@ fn is_direct(t: Target, inst: &Inst) -> bool
 fn is_coded_way(way: Way) -> bool
     ensures { result ≡ is_coded_way way }
 {
-    matches!(way, Way::Inline | Way::PairLoop)
+    matches!(way, Way::Inline | Way::PairLoop | Way::Masked)
 }
 
 #[tactic(auto, using(crate::proofs::Asking::coded_some, crate::proofs::Asking::coded_none))]
@@ -133,7 +133,8 @@ fn meets_in_functions(asked: Asked, t: Target, functions: &[Function]) -> bool
 
 /// Whether a module is built: its target is RV64, it calls no routine, and each of its atomic
 /// instructions is lowered there by a single instruction or by a loop of a linked load and a pair
-/// store (the decision table's ways Inline and PairLoop).
+/// store, of the object or of the word that holds it (the decision table's ways Inline, PairLoop and
+/// Masked).
 pub fn is_built(a: &Accepted) -> bool
     ensures { result ≡ is_built a.now }
 {

@@ -10,16 +10,17 @@ use Rattle.std.proofs.lemmas.Option.{none-some, same_Some}
 use Rattle.ax_words.specs.declared.mark.Mark.{Mark}
 use Rattle.ax_words.specs.declared.mark.Op.{Op}
 use Rattle.ax_words.specs.declared.mark.Op.TheVariants as op
+use Rattle.ax_words.specs.declared.operation.RmwOp.{RmwOp}
 use Rattle.ax_words.specs.declared.operation.RmwOp.TheVariants as rmw
 use Rattle.ax_words.specs.declared.order.Order.{Order}
 use Rattle.ax_words.specs.declared.order.Order.TheVariants.{Unordered, Monotonic, Acquire, Release, AcqRel, SeqCst}
 use Rattle.ax_words.specs.declared.width.Width.{Width}
-use Rattle.ax_words.specs.declared.width.Width.TheVariants.{W64, W128}
+use Rattle.ax_words.specs.declared.width.Width.TheVariants.{W8, W16, W64, W128}
 use Rattle.ax_words.specs.Orders.{is_legal, merged_order}
 use Rattle.ax_words.specs.Routine.{name_of, routine_named}
 use Rattle.ax_words.specs.Width.{bytes_of}
 use Rattle.ax_target.specs.declared.decision.Way.{Way}
-use Rattle.ax_target.specs.declared.decision.Way.TheVariants.{Inline, PairLoop, Sized, Generic}
+use Rattle.ax_target.specs.declared.decision.Way.TheVariants.{Inline, Masked, PairLoop, Sized, Generic}
 use Rattle.ax_target.specs.declared.target.Target.{Target}
 use Rattle.ax_target.specs.declared.target.Target.TheVariants.{X86, Arm, Rv}
 use Rattle.ax_target.specs.Decisions.{access_way, decided, is_rv64, native_way}
@@ -46,11 +47,12 @@ use Rattle.ax_selected.specs.Direct.{is_direct}
 use Rattle.ax_selected.specs.Operations.{Operation, operation_in, operation_of}
 use Rattle.ax_selected.specs.Registers.{block_label, first_label, key, second_label}
 use Rattle.ax_selected.specs.Selected.{acting, silent}
+use Rattle.ax_mask.specs.Codes.{is_narrow}
 use Rattle.ax_llsc.specs.Codes.{is_coded_way}
 use Rattle.ax_llsc.specs.Laws.{DirectCodeHasRow}
 use Rattle.ax_direct_rv.specs.Direct.{is_coded}
 use Rattle.ax_marks_rv.proofs.Codes.{IsCalm, IsLast, IsUnmarked, jump_is, last_marks, level_calm, machine, marks_both, marks_in, row_in, unmarked}
-use Rattle.ax_marks_rv.proofs.Expanded.{expanded, expanded_still}
+use Rattle.ax_marks_rv.proofs.Expanded.{expanded, expanded_still, is_looping, loops_on}
 use Rattle.ax_marks_rv.proofs.Inside.{IsStill}
 use Rattle.ax_marks_rv.proofs.Items.{Each, Placed, laid, laid_both, placed_each, total}
 use Rattle.ax_marks_rv.proofs.Laying.{BranchHolds, behind, code, each_mid, placed_branch, placed_guard, placed_label, placed_line, placed_lines, placed_silent, placed_whole, places, size}
@@ -190,6 +192,7 @@ pair_counts _ bytes = refl
 rv_counts : (zabha zacas : Bool) (o : Op) (order : Order) (width : Width) (way : Way) → is_coded_way way ≡ true → row_of (Rv zabha zacas) o order width way ≡ row_of (Rv zabha zacas) o (counted order) width way
 rv_counts zabha zacas o order width Inline h = inline_counts zabha zacas o order width
 rv_counts zabha zacas o order width PairLoop h = pair_counts order (bytes_of width)
+rv_counts zabha zacas o order width Masked h = pair_counts order 4
 rv_counts zabha zacas o order width _ h = absurd (false≢true h)
 
 -- a native access of another way is not of the way Inline, at any alignment
@@ -210,10 +213,28 @@ nand_way : (zabha zacas : Bool) (width : Width) (align : ℕ) → is_inline_way 
 nand_way zabha zacas W128 align = loop_way zabha zacas (op.Rmw rmw.Nand) W128 align (λ e. absurd (false≢true e))
 nand_way zabha zacas width align = loop_way zabha zacas (op.Rmw rmw.Nand) width align (λ e. refl)
 
+byte_way : (zabha zacas : Bool) (o : RmwOp) → is_inline_way (native_way (Rv zabha zacas) (op.Rmw o) 1) ≡ false
+byte_way zabha zacas rmw.Xchg = refl
+byte_way zabha zacas _ = refl
+
+half_way : (zabha zacas : Bool) (o : RmwOp) → is_inline_way (native_way (Rv zabha zacas) (op.Rmw o) 2) ≡ false
+half_way zabha zacas rmw.Xchg = refl
+half_way zabha zacas _ = refl
+
+-- of updates of that way none has a loop
+update_loops : (zabha zacas : Bool) (o : RmwOp) (width : Width) (align : ℕ) → is_inline_way (decided (Rv zabha zacas) (op.Rmw o) width align) ≡ true → loops_on (is_narrow width) o ≡ false
+update_loops zabha zacas o W8 align h = absurd (false≢true (sym (loop_way zabha zacas (op.Rmw o) W8 align (λ e. byte_way zabha zacas o)) ∙ h))
+update_loops zabha zacas o W16 align h = absurd (false≢true (sym (loop_way zabha zacas (op.Rmw o) W16 align (λ e. half_way zabha zacas o)) ∙ h))
+update_loops zabha zacas rmw.Nand width align h = absurd (false≢true (sym (nand_way zabha zacas width align) ∙ h))
+update_loops zabha zacas _ _ align h = refl
+
+rv_loops : (zabha zacas : Bool) (o : Op) (width : Width) (align : ℕ) → is_inline_way (decided (Rv zabha zacas) o width align) ≡ true → is_looping width o ≡ false
+rv_loops zabha zacas op.Cmpxchg width align h = absurd (false≢true (sym (exchange_way zabha zacas width align) ∙ h))
+rv_loops zabha zacas (op.Rmw o) width align h = update_loops zabha zacas o width align h
+rv_loops zabha zacas _ width align h = refl
+
 rv_straight : (zabha zacas : Bool) (o : Op) (width : Width) (order : Order) (weak : Bool) (align : ℕ) → is_inline_way (decided (Rv zabha zacas) o width align) ≡ true → Each IsStill (expanded (Rv zabha zacas) o width order weak)
-rv_straight zabha zacas op.Cmpxchg width order weak align h = absurd (false≢true (sym (exchange_way zabha zacas width align) ∙ h))
-rv_straight zabha zacas (op.Rmw rmw.Nand) width order weak align h = absurd (false≢true (sym (nand_way zabha zacas width align) ∙ h))
-rv_straight zabha zacas o width order weak align h = expanded_still (Rv zabha zacas) width order weak o refl
+rv_straight zabha zacas o width order weak align h = expanded_still (Rv zabha zacas) width order weak o (rv_loops zabha zacas o width align h)
 
 pub rv_has_rows : DirectCodeHasRow → (target : Target) → is_rv64 target ≡ true → HasRowsOf target
 rv_has_rows law (Rv zabha zacas) h = record { row = λ o width order weak way legal. law zabha zacas o width order weak 0 way legal; counts = rv_counts zabha zacas; straight = rv_straight zabha zacas }

@@ -117,7 +117,7 @@ module _ {I : Type 0} (z : Setting I) (v : Reading) (program : SourceProgram) (f
   meant = record {
     labels = λ j line at is. labels_silent line (laws.small program accepted j line at) is;
     small = λ p j line at. lines_small (frames.base p) (housed.places p) line (laws.small program accepted j line at);
-    placed = placed program (laws.formed program accepted).globals all_lie inside housed.globals;
+    placed = placed program (laws.formed program accepted).globals all_lie inside housed.globals housed.words;
     can = can;
   }
 

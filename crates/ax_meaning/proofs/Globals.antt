@@ -19,6 +19,7 @@ use Rattle.ax_source_run.specs.SourceState.{SourceProgram}
 use Rattle.ax_mid.specs.declared.code.MidGlobal.{MidGlobal}
 use Rattle.ax_mid.specs.WellFormed.{GlobalsLie, IsPlaced}
 use Rattle.ax_fine.specs.Near.{ArePlaced, address_of}
+use Rattle.ax_fine.specs.OnBytes.{AreWords}
 use Rattle.ax_selected.specs.Selected.{globals_from, mid_global, selected}
 use Rattle.ax_selected.proofs.Lying.{globals_get}
 
@@ -111,7 +112,7 @@ module _ (program : SourceProgram) where
       zero_plus n = omega arith
 
   -- ---- the globals lie where the fine machine wants them
-  module _ (lie : GlobalsLie program.target (selected program)) (all_lie : AllLie program.source program.layout) (inside : ℕ → Bool) (mapped : (a : ℕ) → globals_start ≤ a → a < program.layout.end → inside a ≡ true) where
+  module _ (lie : GlobalsLie program.target (selected program)) (all_lie : AllLie program.source program.layout) (inside : ℕ → Bool) (mapped : (a : ℕ) → globals_start ≤ a → a < program.layout.end → inside a ≡ true) (words : AreWords inside) where
     native_aligned : (x : MidGlobal) → IsPlaced program.target x → x.native ≡ true → x.address % x.bytes ≡ 0
     native_aligned x at is = by (nat_le x.bytes (greatest_native program.target)) (nat_eq (x.address % x.bytes) 0) refl (sym at.class ∙ is)
       where
@@ -134,6 +135,7 @@ module _ (program : SourceProgram) where
           inside_all inside (address_of x i) x.bytes (λ k less. mapped (address_of x i + k) (omega (arith, above)) (omega (arith, last, ea, eb, less)));
       aligned = λ g i x there within native. add-mul-mod_self_right x.address i x.bytes ∙ native_aligned x (lie.placed g x there) native;
       apart = λ g h x y there other ne. apart_by g h x y there other ne (nat_lt g h) refl;
+      words = words;
     }
       where
         apart_by : (g h : ℕ) (x y : MidGlobal) → slice_get (selected program).globals g ≡ Some x → slice_get (selected program).globals h ≡ Some y → g ≢ h → (b : Bool) → nat_lt g h ≡ b → (x.address + x.count * x.bytes ≤ y.address) ⊎ (y.address + y.count * y.bytes ≤ x.address)

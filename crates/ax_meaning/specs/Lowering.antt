@@ -16,6 +16,7 @@ use Rattle.ax_mid.specs.Machine.{behind_label, first_processor}
 use Rattle.ax_mid.specs.Processor.{MidProcessor}
 use Rattle.ax_expand.specs.Shared.{Shared}
 use Rattle.ax_fine.specs.Fine.{fine, settle}
+use Rattle.ax_fine.specs.OnBytes.{AreWords}
 use Rattle.ax_fine.specs.Near.{Framed, HasRoom, Spells, bare, on_bytes}
 use Rattle.ax_selected.specs.Direct.{needs_no_routine}
 use Rattle.ax_selected.specs.InStep.{IsFramePlace, code_start}
@@ -73,6 +74,7 @@ none_waits p = []
 pub record IsHoused (program : SourceProgram) (frames : Frames) (entries : List ℕ) (inside : ℕ → Bool) (w : Shared) : Type 0 where
   pub places : (p : ℕ) → IsFramePlace (frames.base p)
   pub globals : (a : ℕ) → globals_start ≤ a → a < program.layout.end → inside a ≡ true
+  pub words : AreWords inside
   pub room : HasRoom (framed program frames) inside (code_start program (selected program) entries)
   pub spells : Spells (selected program).globals inside w (first_numbers program.source) none_waits
 

@@ -26,7 +26,7 @@ use Rattle.ax_rv.specs.Instructions.{rv_kind}
 use Rattle.ax_run.specs.Machine.{MachineState, Shows, Tells, Advanced, counted, cpu_in, passed, processor_in, retired_in, stored}
 
 module _ (x : Setting RvInstr) where
-  run_more : (es : List Event) (e : Event) (m : Machine) → run x (es ++ e ∷ []) m ≡ happens x e (run x es m)
+  pub run_more : (es : List Event) (e : Event) (m : Machine) → run x (es ++ e ∷ []) m ≡ happens x e (run x es m)
   run_more [] e m = refl
   run_more (y ∷ es) e m = run_more es e (happens x y m)
 

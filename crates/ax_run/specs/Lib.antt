@@ -1,4 +1,5 @@
 pub mod MachineState
+pub mod Plans
 pub mod Machine
 pub mod Objects
 pub mod Start

@@ -17,6 +17,8 @@ use Rattle.ax_isa.specs.Stepping.{IsStepAt}
 use Rattle.ax_isa.specs.Tells.{given_of}
 use Rattle.ax_agree.specs.Library.{image_setting}
 use Rattle.ax_rv.specs.Instructions.{rv_kind}
+use Rattle.ax_sched.specs.Events.{Seen}
+use Rattle.ax_run.specs.Plans.{seen_by}
 
 -- past the last processor there is one that has ended
 abbrev pub idle : Cpu
@@ -38,13 +40,20 @@ pub record Shows (r : MachineState) (m : Machine) : Type 0 where
   pub outputs : r.outputs ≡ m.outputs
   pub retired : (q : ℕ) → q < length r.processors → retired_in r q ≡ m.retired q
 
+-- the run that a machine tells from a start, and what directives see of it
+abbrev pub run_of : MachineState → Machine → Machine
+run_of r start = run (image_setting rv_kind r.image) r.events start
+
+abbrev pub seen_in : MachineState → Seen Machine
+seen_in r = seen_by (image_setting rv_kind r.image) (length r.processors)
+
 -- A MACHINE TELLS THE RUN of its image over its events from a start, and the source events that explain it
 pub record Tells (start : Machine) (r : MachineState) : Type 0 where
   -- without buffers it is all the same which stores are source events
   pub sources : (counts : Entry → Bool) → r.sources ≡ explain (image_setting rv_kind r.image) given_of (tag_at r.image.tags) counts r.events start
-  pub shows : Shows r (run (image_setting rv_kind r.image) r.events start)
+  pub shows : Shows r (run_of r start)
   -- and no store waits
-  pub flat : (q : ℕ) → (run (image_setting rv_kind r.image) r.events start).noted.storage.waiting q ≡ []
+  pub flat : (q : ℕ) → (run_of r start).noted.storage.waiting q ≡ []
 
 -- through a call it goes on telling the run of whatever start it told
 abbrev pub GoesOn : MachineState → MachineState → Type 0

@@ -1,17 +1,20 @@
 //! The machine of a run: processors, storage, and what is written down of its events.
 
-ghost use Rattle.std.specs.Prelude.{◌↔◌, ◌≡◌, ◌<◌, ◌≤◌, ◌+◌, ◌++◌, ◌∷◌, [], All, IsTrue, false, flat_map, length};
+ghost use Rattle.std.specs.Prelude.{◌≡◌, ℕ, ◌<◌, ◌≤◌, ◌+◌, ◌++◌, ◌∷◌, [], All, false, is_some, length, slice_index_or};
 ghost use Rattle.std.specs.List.{sum_by};
 ghost use Rattle.ax_store.specs.Storage.{drained, dropped};
 ghost use Rattle.ax_store.specs.Store.{storage_of};
 ghost use Rattle.ax_words.specs.declared.event.Event.TheVariants.{Step as Steps, Drain as Drains, Drop as Drops};
-ghost use Rattle.ax_sched.specs.Events.{event_processor, item_events};
+ghost use Rattle.ax_target.specs.declared.target.Target.{Target as Targets};
+ghost use Rattle.ax_isa.specs.Run.{Machine as Run};
+ghost use Rattle.ax_sched.specs.Events.{event_processor, events_of, item_events, next_event};
 ghost use Rattle.ax_sched.specs.Plan.{IsWithin, times_of};
-ghost use Rattle.ax_run.specs.Machine.{Advanced, GoesOn, IsReady, Kept, counted, cpu_in, passed, retired_in, stored};
+ghost use Rattle.ax_run.specs.Machine.{Advanced, GoesOn, IsReady, Kept, Shows, Tells, counted, cpu_in, passed, retired_in, run_of, seen_in, stored};
+ghost use Rattle.ax_run.specs.Plans.{glance_of, is_running};
 
 use ax_isa::{Cpu, Image, Shown, Status, step};
 use ax_rv::{Rv64, RvInstr};
-use ax_sched::{Item, event_at};
+use ax_sched::{Glance, Item};
 use ax_store::Store;
 use ax_target::Target;
 use ax_words::{Event, SourceEvent};
@@ -59,13 +62,14 @@ impl<'a> Machine<'a> {
     fn processors(&self) -> u8
         ensures count { result ≡ length self.now.processors }
         ensures some { 1 ≤ result }
+        ensures few { result ≤ 8 }
     {
         self.cpus.len() as u8
     }
 
     fn is_running(&self, p: u8) -> bool
         requires { p < length self.now.processors }
-        ensures { IsTrue result ↔ ((cpu_in self.now p).status ≡ Status.Running) }
+        ensures { result ≡ is_running (cpu_in self.now p).status }
     {
         matches!(self.cpus[p as usize].status, Status::Running)
     }
@@ -189,18 +193,70 @@ impl<'a> Machine<'a> {
         }
     }
 
+    /// Of each processor whether it is running.
+    fn running(&self) -> [bool; 8]
+        ensures { (p : ℕ) → p < length self.now.processors → slice_index_or result p false ≡ is_running (cpu_in self.now p).status }
+    {
+        let mut running = [false; 8];
+        for p in 0..self.processors() {
+            running[p as usize] = self.is_running(p);
+        }
+        running
+    }
+
+    fn is_linked(&self, p: u8) -> bool
+        requires { p < length self.now.processors }
+        ensures { result ≡ is_some ((storage_of self.now.store).linked p) }
+    {
+        self.store.linked(p)
+    }
+
+    /// Of each processor whether it has a reservation.
+    fn linked(&self) -> [bool; 8]
+        ensures { (p : ℕ) → p < length self.now.processors → slice_index_or result p false ≡ is_some ((storage_of self.now.store).linked p) }
+    {
+        let mut linked = [false; 8];
+        for p in 0..self.processors() {
+            linked[p as usize] = self.is_linked(p);
+        }
+        linked
+    }
+
+    /// What a directive sees before its event of this number. Where it waits for nothing it sees no
+    /// more than the number.
+    fn glance(&self, item: Item, number: u64) -> Glance
+        requires { IsWithin (length self.now.processors) item }
+        ensures processors { result.processors ≡ length self.now.processors }
+        ensures some { 1 ≤ result.processors }
+        ensures sees { (target : Targets) (m : Run) → Shows self.now m → next_event target item result ≡ next_event target item (glance_of (length self.now.processors) m number) }
+    {
+        let processors = self.processors();
+        if !item.waits() {
+            return Glance::unseen(number, processors);
+        }
+        Glance {
+            number,
+            processors,
+            running: self.running(),
+            linked: self.linked(),
+            holding: [false; 8],
+        }
+    }
+
     /// The events of a directive on a target.
     fn repeat(&mut self, item: Item, target: Target)
         requires room { times_of item ≤ self.old.room }
         requires processor { IsWithin (length self.old.processors) item }
         ensures tells { GoesOn self.old self.new }
-        ensures events { self.new.events ≡ self.old.events ++ item_events target (length self.old.processors) item }
-        ensures room { self.new.room + times_of item ≡ self.old.room }
+        ensures events { (start : Run) → Tells start self.old → self.new.events ≡ self.old.events ++ item_events (seen_in self.old) target item (times_of item) 0 (run_of self.old start) }
+        ensures room { self.old.room ≤ self.new.room + times_of item }
         ensures kept { Kept self.old self.new }
     {
-        let processors = self.processors();
-        for k in 0..item.times() {
-            self.happen(event_at(item, processors, target, k));
+        for number in 0..item.times() {
+            let Some(e) = item.next_event(&self.glance(item, number), target) else {
+                return;
+            };
+            self.happen(e);
         }
     }
 
@@ -209,7 +265,7 @@ impl<'a> Machine<'a> {
         requires room { sum_by times_of items.now ≤ self.old.room }
         requires processors { All (IsWithin (length self.old.processors)) items.now }
         ensures tells { GoesOn self.old self.new }
-        ensures events { self.new.events ≡ self.old.events ++ flat_map (item_events target (length self.old.processors)) items.now }
+        ensures events { (start : Run) → Tells start self.old → self.new.events ≡ self.old.events ++ events_of (seen_in self.old) target items.now (run_of self.old start) }
         ensures kept { Kept self.old self.new }
     {
         for item in items {

@@ -9,7 +9,7 @@ use Rattle.std.proofs.lemmas.Bool.Decides.{nat_tests}
 use Rattle.std.proofs.lemmas.Option.{same_Some}
 use Rattle.std.proofs.lemmas.Slice.Eq.{bytes_eq-Decides}
 use Rattle.ax_sched.specs.declared.plan.Item.{Item}
-use Rattle.ax_sched.specs.declared.plan.Item.TheVariants.{Step, Drain, Drop, Round, Random}
+use Rattle.ax_sched.specs.declared.plan.Item.TheVariants.{Step, Drain, Drop, Link, Round, Random}
 use Rattle.ax_sched.specs.declared.directive.Verb.{Verb}
 use Rattle.ax_sched.specs.declared.directive.Verb.TheVariants as verb
 use Rattle.ax_sched.specs.declared.directive.Directive.{Directive}
@@ -34,6 +34,7 @@ abbrev word_of : Verb → List ℕ
 word_of verb.Step = codes "step"
 word_of verb.Drain = codes "drain"
 word_of verb.Drop = codes "drop"
+word_of verb.Link = codes "link"
 word_of verb.Round = codes "round"
 word_of (verb.Random s) = codes "random"
 
@@ -44,6 +45,7 @@ IsNamed (verb.Random s) = ⊥
 IsNamed verb.Step = Unit {0}
 IsNamed verb.Drain = Unit {0}
 IsNamed verb.Drop = Unit {0}
+IsNamed verb.Link = Unit {0}
 
 -- what a directive is that was read from words
 record IsRead (words : List (List ℕ)) (d : Directive) : Type 0 where
@@ -66,7 +68,12 @@ verb_found w v e =
                 let e2 = rw b at e1 in
                 elim (cases_Bool (pointwise nat_eq w (codes "drop"))) [
                   | inl k ↦ found verb.Drop v (word_is w (codes "drop") k) tt (same_Some verb.Drop v (rw k at e2))
-                  | inr k ↦ let e3 = rw k at e2 in absurd cc
+                  | inr k ↦
+                      let e3 = rw k at e2 in
+                      elim (cases_Bool (pointwise nat_eq w (codes "link"))) [
+                        | inl m ↦ found verb.Link v (word_is w (codes "link") m) tt (same_Some verb.Link v (rw m at e3))
+                        | inr m ↦ let e4 = rw m at e3 in absurd cc
+                      ]
                 ]
           ]
     ]
@@ -78,6 +85,7 @@ named_words : (v : Verb) (p n : ℕ) → IsNamed v → word_of v ∷ decimal p �
 named_words verb.Step p n h = refl
 named_words verb.Drain p n h = refl
 named_words verb.Drop p n h = refl
+named_words verb.Link p n h = refl
 named_words verb.Round p n h = absurd h
 named_words (verb.Random s) p n h = absurd h
 
@@ -85,6 +93,7 @@ named_numbers : (v : Verb) (p n : ℕ) → IsNamed v → p < 2 ^ 64 → n < 2 ^ 
 named_numbers verb.Step p n h small few = (small, few)
 named_numbers verb.Drain p n h small few = (small, few)
 named_numbers verb.Drop p n h small few = (small, few)
+named_numbers verb.Link p n h small few = (small, few)
 named_numbers verb.Round p n h small few = absurd h
 named_numbers (verb.Random s) p n h small few = absurd h
 
@@ -144,6 +153,7 @@ abbrev stated_by : Item → Directive
 stated_by (Step p n) = directive_of verb.Step p n
 stated_by (Drain p n) = directive_of verb.Drain p n
 stated_by (Drop p n) = directive_of verb.Drop p n
+stated_by (Link p n) = directive_of verb.Link p n
 stated_by (Round n) = directive_of verb.Round 0 n
 stated_by (Random s n) = directive_of (verb.Random s) 0 n
 
@@ -154,6 +164,7 @@ item_again : (i : Item) → HasNumbers i → directive_from (item_words i) ≡ S
 item_again (Step p n) h = named_again verb.Step (codes "step") p n refl h.0 h.1
 item_again (Drain p n) h = named_again verb.Drain (codes "drain") p n refl h.0 h.1
 item_again (Drop p n) h = named_again verb.Drop (codes "drop") p n refl h.0 h.1
+item_again (Link p n) h = named_again verb.Link (codes "link") p n refl h.0 h.1
 item_again (Round n) h = rw (number_of_decimal n h) refl
 item_again (Random s n) h = rw (number_of_decimal s h.0, number_of_decimal n h.1) refl
 
@@ -161,6 +172,7 @@ item_stated : (i : Item) → item_of (stated_by i) ≡ i
 item_stated (Step p n) = refl
 item_stated (Drain p n) = refl
 item_stated (Drop p n) = refl
+item_stated (Link p n) = refl
 item_stated (Round n) = refl
 item_stated (Random s n) = refl
 
@@ -168,6 +180,7 @@ times_by : (v : Verb) (p n : ℕ) → times_of (item_by v p n) ≡ n
 times_by verb.Step p n = refl
 times_by verb.Drain p n = refl
 times_by verb.Drop p n = refl
+times_by verb.Link p n = refl
 times_by verb.Round p n = refl
 times_by (verb.Random s) p n = refl
 
@@ -175,6 +188,7 @@ within_found : (k : ℕ) (v : Verb) (p n : ℕ) → p < k → IsWithin k (item_b
 within_found k verb.Step p n h = h
 within_found k verb.Drain p n h = h
 within_found k verb.Drop p n h = h
+within_found k verb.Link p n h = h
 within_found k verb.Round p n h = tt
 within_found k (verb.Random s) p n h = tt
 
@@ -182,6 +196,7 @@ within_again : (k : ℕ) (i : Item) → 1 ≤ k → IsWithin k i → (stated_by 
 within_again k (Step p n) some h = h
 within_again k (Drain p n) some h = h
 within_again k (Drop p n) some h = h
+within_again k (Link p n) some h = h
 within_again k (Round n) some h = omega arith
 within_again k (Random s n) some h = omega arith
 
@@ -189,6 +204,7 @@ times_stated : (i : Item) → (stated_by i).n ≡ times_of i
 times_stated (Step p n) = refl
 times_stated (Drain p n) = refl
 times_stated (Drop p n) = refl
+times_stated (Link p n) = refl
 times_stated (Round n) = refl
 times_stated (Random s n) = refl
 
@@ -254,6 +270,7 @@ module _ (k events : ℕ) (some : 1 ≤ k) where
   in_range verb.Step p n z h = h
   in_range verb.Drain p n z h = h
   in_range verb.Drop p n z h = h
+  in_range verb.Link p n z h = h
   in_range verb.Round p n z h = omega (arith, z (λ (x : IsNamed verb.Round). x))
   in_range (verb.Random s) p n z h = omega (arith, z (λ (x : IsNamed (verb.Random s)). x))
 
@@ -295,6 +312,7 @@ module _ (k events : ℕ) (some : 1 ≤ k) where
   within_back (Step p n) h = h
   within_back (Drain p n) h = h
   within_back (Drop p n) h = h
+  within_back (Link p n) h = h
   within_back (Round n) h = tt
   within_back (Random s n) h = tt
 

@@ -1,20 +1,12 @@
 -- The events that directives make, one by one.
-use Rattle.std.proofs.Common.{◌≡◌, ℕ, zero, suc, ◌+◌, ◌*◌, ◌/◌, ◌%◌, ◌<◌, ◌≤◌, arith, Bool, true, false, List, [], ◌∷◌, ◌++◌, length, get_or, take, sum_by, refl, sym, ap, ap₂, ◌∙◌, if◌then◌else◌, zero-add, length-append, length-take}
+use Rattle.std.proofs.Common.{◌≡◌, ℕ, zero, suc, ◌+◌, ◌*◌, ◌/◌, ◌%◌, ◌<◌, ◌≤◌, arith, Bool, true, false, List, [], ◌∷◌, length, get_or, take, refl, sym, ap, ◌∙◌, if◌then◌else◌, zero-add, length-take}
 use Rattle.std.specs.Prelude.{◌==◌, slice_index_or}
 use Rattle.std.specs.List.{flat_map, range_with_len}
-use Rattle.std.proofs.lemmas.List.{length-replicate, take_all, take_more}
 use Rattle.std.proofs.lemmas.List.Concat.{get_or-flat_map}
-use Rattle.std.proofs.lemmas.List.FromFn.{length-range_with_len, get_or-range_with_len, length-map-range_with_len, get_or-map-range_with_len}
-use Rattle.std.proofs.lemmas.List.Sums.{sum_by-cons}
+use Rattle.std.proofs.lemmas.List.FromFn.{length-range_with_len, get_or-range_with_len}
 use Rattle.ax_words.specs.declared.event.Event.{Event}
 use Rattle.ax_words.specs.declared.event.Event.TheVariants as event
-use Rattle.ax_target.specs.declared.target.Target.{Target}
-use Rattle.ax_target.specs.Targets.{is_buffered}
-use Rattle.ax_sched.specs.declared.plan.Item.{Item}
-use Rattle.ax_sched.specs.declared.plan.Item.TheVariants.{Step, Drain, Drop, Round, Random}
-use Rattle.ax_sched.specs.Plan.{times_of}
-use Rattle.ax_sched.specs.Mix.{mix}
-use Rattle.ax_sched.specs.Events.{turn, cycle, repeated, item_events, cycle_event, random_event}
+use Rattle.ax_sched.specs.Events.{turn, cycle, cycle_event, cyclic}
 
 -- ---- a cycle
 
@@ -70,50 +62,17 @@ plain_at processors q d h =
     ∙ get_or-flat_map (turn false) ps q 0 0 d known (omega arith)
     ∙ ap (λ p. get_or (turn false p) 0 d) (processor_at processors q h)
 
-repeated_at : (buffered : Bool) (processors n k : ℕ) → 1 ≤ processors → k < n → slice_index_or (repeated (cycle buffered processors) n) k (event.Step 0) ≡ cycle_event buffered processors k
-repeated_at true processors n k some h =
+-- THE EVENT OF A CYCLE IN A PLACE, as code finds it
+pub cyclic_at : (buffered : Bool) (processors k : ℕ) → 1 ≤ processors → cycle_event buffered processors k ≡ cyclic buffered processors k
+cyclic_at true processors k some =
     let i : ℕ = k % (3 * processors) in
     let wide : 0 < 3 * processors = omega arith in
     let small : i < 3 * processors = omega arith in
     let q : i / 3 < processors = omega arith in
-    get_or-map-range_with_len (λ x. slice_index_or (cycle true processors) (x % length (cycle true processors)) (event.Step 0)) 0 n k k (event.Step 0) h (zero-add k)
-    ∙ ap (λ w. slice_index_or (cycle true processors) (k % w) (event.Step 0)) (cycle_len true processors)
-    ∙ buffered_at processors (i / 3) (i % 3) i (event.Step 0) q (omega arith) (omega arith)
-repeated_at false processors n k some h =
+    sym (ap (λ w. slice_index_or (cycle true processors) (k % w) (event.Step 0)) (cycle_len true processors)
+    ∙ buffered_at processors (i / 3) (i % 3) i (event.Step 0) q (omega arith) (omega arith))
+cyclic_at false processors k some =
     let one : 1 * processors ≡ processors = omega arith in
     let small : k % processors < processors = omega arith in
-    get_or-map-range_with_len (λ x. slice_index_or (cycle false processors) (x % length (cycle false processors)) (event.Step 0)) 0 n k k (event.Step 0) h (zero-add k)
-    ∙ ap (λ w. slice_index_or (cycle false processors) (k % w) (event.Step 0)) (cycle_len false processors ∙ one)
-    ∙ plain_at processors (k % processors) (event.Step 0) small
-
-pub round_at : (target : Target) (processors n k : ℕ) → 1 ≤ processors → k < n → slice_index_or (item_events target processors (Round n)) k (event.Step 0) ≡ cycle_event (is_buffered target) processors k
-round_at target processors n k some h = repeated_at (is_buffered target) processors n k some h
-
-pub random_at : (target : Target) (processors seed n k : ℕ) → k < n → slice_index_or (item_events target processors (Random seed n)) k (event.Step 0) ≡ random_event target processors (mix seed k)
-random_at target processors seed n k h = get_or-map-range_with_len (λ x. random_event target processors (mix seed x)) 0 n k k (event.Step 0) h (zero-add k)
-
--- ---- how many there are
-
-pub length-item_events : (target : Target) (processors : ℕ) (i : Item) → length (item_events target processors i) ≡ times_of i
-length-item_events target processors (Step p n) = length-replicate n (event.Step p)
-length-item_events target processors (Drain p n) = length-replicate n (event.Drain p)
-length-item_events target processors (Drop p n) = length-replicate n (event.Drop p)
-length-item_events target processors (Round n) = length-map-range_with_len (λ k. slice_index_or (cycle (is_buffered target) processors) (k % length (cycle (is_buffered target) processors)) (event.Step 0)) 0 n
-length-item_events target processors (Random seed n) = length-map-range_with_len (λ k. random_event target processors (mix seed k)) 0 n
-
-pub length-events : (target : Target) (processors : ℕ) (items : List Item) → length (flat_map (item_events target processors) items) ≡ sum_by times_of items
-length-events target processors [] = refl
-length-events target processors (i ∷ items) =
-    length-append (item_events target processors i) (flat_map (item_events target processors) items)
-    ∙ ap₂ ◌+◌ (length-item_events target processors i) (length-events target processors items)
-    ∙ sym (sum_by-cons times_of i items)
-
--- ---- from event to event
-
-pub events_more : (target : Target) (processors : ℕ) (i : Item) (k : ℕ) (e : Event) → k < times_of i → e ≡ slice_index_or (item_events target processors i) k (event.Step 0) → take (k + 1) (item_events target processors i) ≡ take k (item_events target processors i) ++ e ∷ []
-events_more target processors i k e h same =
-    take_more (item_events target processors i) k (event.Step 0) (omega (arith, length-item_events target processors i))
-    ∙ ap (λ x. take k (item_events target processors i) ++ x ∷ []) (sym same)
-
-pub events_all : (target : Target) (processors : ℕ) (i : Item) (k : ℕ) → k ≡ times_of i → take k (item_events target processors i) ≡ item_events target processors i
-events_all target processors i k h = take_all k (item_events target processors i) (omega (arith, length-item_events target processors i))
+    sym (ap (λ w. slice_index_or (cycle false processors) (k % w) (event.Step 0)) (cycle_len false processors ∙ one)
+    ∙ plain_at processors (k % processors) (event.Step 0) small)

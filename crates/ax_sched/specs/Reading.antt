@@ -9,7 +9,7 @@ use Rattle.ax_lex.specs.Names.{name_in}
 use Rattle.ax_lex.specs.Numbers.{number_of as decimal_of}
 use Rattle.ax_lex.specs.Tokens.{is_token}
 use Rattle.ax_sched.specs.declared.plan.Item.{Item}
-use Rattle.ax_sched.specs.declared.plan.Item.TheVariants.{Step, Drain, Drop, Round, Random}
+use Rattle.ax_sched.specs.declared.plan.Item.TheVariants.{Step, Drain, Drop, Link, Round, Random}
 use Rattle.ax_sched.specs.declared.plan.Plan.{Plan}
 use Rattle.ax_sched.specs.declared.directive.Verb.{Verb}
 use Rattle.ax_sched.specs.declared.directive.Verb.TheVariants as verb
@@ -113,7 +113,7 @@ first_of functions (w ∷ ws) = if is_first_line (w ∷ ws) then counted_entries
 -- ---- directives
 
 abbrev pub verb_of : List ℕ → Option Verb
-verb_of word = if pointwise nat_eq word (codes "step") then Some verb.Step else if pointwise nat_eq word (codes "drain") then Some verb.Drain else if pointwise nat_eq word (codes "drop") then Some verb.Drop else None
+verb_of word = if pointwise nat_eq word (codes "step") then Some verb.Step else if pointwise nat_eq word (codes "drain") then Some verb.Drain else if pointwise nat_eq word (codes "drop") then Some verb.Drop else if pointwise nat_eq word (codes "link") then Some verb.Link else None
 
 abbrev pub directive_of : Verb → ℕ → ℕ → Directive
 directive_of v p n = record { verb = v; p = p; n = n }
@@ -138,6 +138,7 @@ abbrev pub item_by : Verb → ℕ → ℕ → Item
 item_by verb.Step p n = Step p n
 item_by verb.Drain p n = Drain p n
 item_by verb.Drop p n = Drop p n
+item_by verb.Link p n = Link p n
 item_by verb.Round p n = Round n
 item_by (verb.Random seed) p n = Random seed n
 

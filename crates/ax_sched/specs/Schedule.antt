@@ -6,7 +6,7 @@ use Rattle.ax_lex.specs.Names.{name_in}
 use Rattle.ax_lex.specs.Tokens.{is_token}
 use Rattle.ax_module.specs.declared.module.Module.{Module}
 use Rattle.ax_sched.specs.declared.plan.Item.{Item}
-use Rattle.ax_sched.specs.declared.plan.Item.TheVariants.{Step, Drain, Drop, Round, Random}
+use Rattle.ax_sched.specs.declared.plan.Item.TheVariants.{Step, Drain, Drop, Link, Round, Random}
 use Rattle.ax_sched.specs.declared.plan.Plan.{Plan}
 use Rattle.ax_sched.specs.declared.fault.Cause.{Cause}
 use Rattle.ax_sched.specs.declared.fault.Cause.TheVariants.{Syntax, ProcessorRange, UnknownEntry, UnknownObject, TooMany}
@@ -57,6 +57,7 @@ abbrev pub item_words : Item → List (List ℕ)
 item_words (Step p n) = codes "step" ∷ decimal p ∷ decimal n ∷ []
 item_words (Drain p n) = codes "drain" ∷ decimal p ∷ decimal n ∷ []
 item_words (Drop p n) = codes "drop" ∷ decimal p ∷ decimal n ∷ []
+item_words (Link p n) = codes "link" ∷ decimal p ∷ decimal n ∷ []
 item_words (Round n) = codes "round" ∷ decimal n ∷ []
 item_words (Random seed n) = codes "random" ∷ decimal seed ∷ decimal n ∷ []
 
@@ -65,6 +66,7 @@ abbrev pub HasNumbers : Item → Type 0
 HasNumbers (Step p n) = (p < 2 ^ 64) × (n < 2 ^ 64)
 HasNumbers (Drain p n) = (p < 2 ^ 64) × (n < 2 ^ 64)
 HasNumbers (Drop p n) = (p < 2 ^ 64) × (n < 2 ^ 64)
+HasNumbers (Link p n) = (p < 2 ^ 64) × (n < 2 ^ 64)
 HasNumbers (Round n) = n < 2 ^ 64
 HasNumbers (Random seed n) = (seed < 2 ^ 64) × (n < 2 ^ 64)
 

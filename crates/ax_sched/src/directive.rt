@@ -15,6 +15,7 @@ pub enum Verb {
     Step,
     Drain,
     Drop,
+    Link,
     Round,
     Random { seed: u64 },
 }
@@ -35,6 +36,7 @@ fn verb_of(word: &[u8]) -> Option<Verb>
         b"step" => Some(Verb::Step),
         b"drain" => Some(Verb::Drain),
         b"drop" => Some(Verb::Drop),
+        b"link" => Some(Verb::Link),
         _ => None,
     }
 }
@@ -95,6 +97,7 @@ fn item_of(directive: Directive) -> Item
         Verb::Step => Item::Step { p, n },
         Verb::Drain => Item::Drain { p, n },
         Verb::Drop => Item::Drop { p, n },
+        Verb::Link => Item::Link { p, n },
         Verb::Round => Item::Round { n },
         Verb::Random { seed } => Item::Random { seed, n },
     }

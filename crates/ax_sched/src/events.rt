@@ -1,17 +1,13 @@
-//! The events of directives, one by one.
+//! The policies of directives that choose among all processors.
 
-ghost use Rattle.std.specs.Prelude.{◌≡◌, ◌<◌, ◌≤◌, IsTrue, slice_index_or};
-ghost use Rattle.ax_words.specs.declared.event.Event.TheVariants.{Step as Steps};
+ghost use Rattle.std.specs.Prelude.{◌≡◌, ◌<◌, ◌≤◌, IsTrue};
 ghost use Rattle.ax_target.specs.Targets.{is_buffered};
 ghost use Rattle.ax_sched.specs.Mix.{mix};
-ghost use Rattle.ax_sched.specs.Plan.{IsWithin, times_of};
-ghost use Rattle.ax_sched.specs.Events.{event_processor, item_events, cycle_event, random_event};
+ghost use Rattle.ax_sched.specs.Events.{event_processor, cycle_event, random_event};
 ghost use Rattle.ax_sched.specs.Policy.{has_event};
 
 use crate::generator::mix;
 use crate::glance::Glance;
-use crate::plan::Item;
-use crate::policy::Policy;
 use ax_target::{Target, buffered, pairs};
 use ax_words::Event;
 
@@ -52,27 +48,5 @@ pub fn random_event(g: &Glance, target: Target, seed: u64) -> Event
         Event::Drop(p)
     } else {
         Event::Step(p)
-    }
-}
-
-/// Event k of a directive, counted from 0, in constant time, on a target and with so many processors.
-/// Those of a `Round` and of a `Random` are the answers of their policies, which look at nothing else.
-pub fn event_at(item: Item, processors: u8, target: Target, k: u64) -> Event
-    requires processors { 1 ≤ processors }
-    requires within { k < times_of item }
-    ensures is { result ≡ slice_index_or (item_events target processors item) k (Steps 0) }
-    ensures processor { IsWithin processors item → event_processor result < processors }
-{
-    let glance = Glance::unseen(k, processors);
-    match item {
-        Item::Step { p, .. } => Event::Step(p),
-        Item::Drain { p, .. } => Event::Drain(p),
-        Item::Drop { p, .. } => Event::Drop(p),
-        Item::Round { .. } => {
-            Policy::new(|g| round_event(g, target), processors, target).next(&glance)
-        }
-        Item::Random { seed, .. } => {
-            Policy::new(|g| random_event(g, target, seed), processors, target).next(&glance)
-        }
     }
 }

@@ -16,7 +16,7 @@ mod schedule;
 pub use ax_module::Module;
 pub use ax_target::Target;
 pub use ax_words::{Event, Items};
-pub use events::{event_at, random_event, round_event};
+pub use events::{random_event, round_event};
 pub use fault::{Cause, SchedFault};
 pub use generator::mix;
 pub use glance::Glance;

@@ -107,8 +107,9 @@ fn read_lines(alloc: Global, bytes: &[u8], functions: &[Function]) -> Result<Pla
 /// A schedule is lines of words. A blank is a space, a tab or a carriage return; a blank within
 /// double quotes parts nothing. Lines without words and lines whose first word begins with `#` are
 /// passed over. The first line is `processors` and the names of 1 to 8 functions, as the module's text
-/// has them with their `@`; those behind it are `step P N`, `drain P N`, `drop P N` and `round N`,
-/// with the processor P counted from 0 and all N together at most 1,000,000. Numbers are decimal
+/// has them with their `@`; those behind it are `step P N`, `drain P N`, `drop P N`, `link P N`,
+/// `round N` and `random SEED N`, with the processor P counted from 0 and all N together at most
+/// 1,000,000. Numbers are decimal
 /// without leading zeros. The last line feed may be absent.
 ///
 /// `Bad` names the first bad line, counted from 1, and its first cause; a text without a first

@@ -1,6 +1,7 @@
 pub mod Sums
 pub mod Ranges
 pub mod Instructions
+pub mod Masked
 pub mod Rounds
 pub mod Loops
 pub mod Sizes

@@ -1,59 +1,41 @@
 -- The code of loops, and so that of each operation, is good where it stands, and short.
-use Rattle.std.proofs.Common.{◌≡◌, ℕ, ◌+◌, ◌*◌, ◌^◌, ◌<◌, ◌≤◌, ◌⊎◌, inl, inr, pos, negsuc, Bool, true, false, List, [], ◌∷◌, ◌++◌, length, refl, sym, subst, arith, length-append}
+use Rattle.std.proofs.Common.{◌≡◌, ℕ, ◌+◌, ◌^◌, ◌<◌, ◌≤◌, ◌⊎◌, inl, inr, pos, negsuc, Bool, true, false, List, [], ◌∷◌, ◌++◌, length, refl, sym, subst, arith, length-append}
 use Rattle.ax_words.specs.declared.mark.Op.{Op}
 use Rattle.ax_words.specs.declared.mark.Op.TheVariants as op
 use Rattle.ax_words.specs.declared.operation.RmwOp.{RmwOp}
 use Rattle.ax_words.specs.declared.operation.RmwOp.TheVariants as rmw
 use Rattle.ax_words.specs.declared.order.Order.{Order}
-use Rattle.ax_words.specs.declared.order.Order.TheVariants.{Unordered, Monotonic, Acquire, Release, AcqRel, SeqCst}
 use Rattle.ax_words.specs.declared.width.Width.{Width}
 use Rattle.ax_words.specs.declared.width.Width.TheVariants.{W32}
 use Rattle.ax_tags.specs.declared.tags.Tag.{Tag}
 use Rattle.ax_tags.specs.declared.tags.Tag.TheVariants.{Silent, Stored}
 use Rattle.ax_target.specs.declared.target.Target.{Target}
-use Rattle.ax_agree.specs.Sound.{IsTag}
 use Rattle.ax_rv.specs.declared.instructions.Binary.TheVariants as binary
 use Rattle.ax_rv.specs.declared.instructions.Condition.TheVariants as condition
 use Rattle.ax_rv.specs.declared.instructions.RvInstr.{RvInstr}
 use Rattle.ax_rv.specs.declared.instructions.RvInstr.TheVariants.{Binary, Branch, Li, StoreConditional, Unary}
 use Rattle.ax_rv.specs.declared.instructions.Unary.TheVariants as unary
-use Rattle.ax_rv.specs.Instructions.{IsDistance, IsLoadEnding, IsStoreEnding}
+use Rattle.ax_rv.specs.Instructions.{IsDistance}
 use Rattle.ax_expand.specs.Standing.{silently}
 use Rattle.ax_expand.proofs.Straight.{silent_length}
-use Rattle.ax_mid.specs.WellFormed.{words_given, words_taken}
-use Rattle.ax_llsc.specs.Loops.{answer, clear, comparand, different, exchange_code, link, link_ending, nand_back, nand_code, nand_computation, pair_mark, size_of, store_ending}
+use Rattle.ax_mid.specs.WellFormed.{words_given}
+use Rattle.ax_emit_rv.specs.Code.{Expansion}
+use Rattle.ax_mask.specs.Codes.{is_narrow, masked_code}
+use Rattle.ax_mask.specs.Pairs.{store_ending}
+use Rattle.ax_llsc.specs.Codes.{Atomic, exchange_of, rounded, rounding, update_of}
+use Rattle.ax_llsc.specs.Loops.{answer, clear, comparand, different, exchange_code, link, nand_back, nand_code, nand_computation, size_of}
 use Rattle.ax_direct_rv.specs.Direct.{direct_expansions}
-use Rattle.ax_direct_rv.proofs.Words.{few_given, few_taken}
 use Rattle.ax_sound_rv.proofs.Instructions.{AllGo, AreGood, GoesOn, IsLed, backward, forward, go_both, good_behind, good_of, leap_good, straight_good, straight_silently, turn_good}
-use Rattle.ax_sound_rv.proofs.Rounds.{IsOne, clear_goes, one_few, one_straight}
+use Rattle.ax_sound_rv.proofs.Masked.{link_ends, mark_is, masked_few, masked_good, store_ends}
+use Rattle.ax_sound_rv.proofs.Rounds.{clear_goes, one_access, one_few, one_straight}
 
 -- ---- its parts
-link_ends : (order : Order) → IsLoadEnding (link_ending order)
-link_ends Unordered = tt
-link_ends Monotonic = tt
-link_ends Acquire = tt
-link_ends Release = tt
-link_ends AcqRel = tt
-link_ends SeqCst = tt
-
-store_ends : (order : Order) → IsStoreEnding (store_ending order)
-store_ends Unordered = tt
-store_ends Monotonic = tt
-store_ends Acquire = tt
-store_ends Release = tt
-store_ends AcqRel = tt
-store_ends SeqCst = tt
-
 link_goes : (width : Width) (order : Order) → GoesOn (link width order)
 link_goes width order = (omega arith, omega arith, link_ends order)
 
 comparand_goes : (width : Width) → GoesOn (comparand width)
 comparand_goes W32 = (omega arith, omega arith)
 comparand_goes _ = (omega arith, omega arith, omega arith)
-
-mark_is : (weak : Bool) → IsTag (pair_mark weak)
-mark_is true = tt
-mark_is false = tt
 
 module _ (n : ℕ) (low : n < 2 ^ 31) where
   clear_good : (width : Width) (place : ℕ) → AreGood n place (silently (clear 15 width))
@@ -134,68 +116,73 @@ module _ (n : ℕ) (low : n < 2 ^ 31) where
           ),
         )
 
--- ---- each operation: a compare-exchange, a nand, or one access
-abbrev IsCode : Op → Type 0
-IsCode o = (o ≡ op.Cmpxchg) ⊎ ((o ≡ op.Rmw rmw.Nand) ⊎ ((target : Target) (width : Width) (order : Order) (weak : Bool) → IsOne target o width order weak))
+-- ---- how long they are
+exchange_few : (width : Width) (weak : Bool) (order : Order) → length (exchange_code width order weak) ≤ 24
+exchange_few W32 true order = omega arith
+exchange_few W32 false order = omega arith
+exchange_few _ true order = omega arith
+exchange_few _ false order = omega arith
 
-update_code : (o : RmwOp) → IsCode (op.Rmw o)
-update_code rmw.Nand = inr (inl refl)
-update_code _ = inr (inr (λ target width order weak. refl))
+nand_few : (width : Width) (order : Order) → length (nand_code width order) ≤ 24
+nand_few W32 order = omega arith
+nand_few _ order = omega arith
 
-code_is : (o : Op) → IsCode o
-code_is op.Load = inr (inr (λ target width order weak. refl))
-code_is op.Store = inr (inr (λ target width order weak. refl))
-code_is op.Cmpxchg = inl refl
-code_is (op.Rmw o) = update_code o
-code_is op.Fence = inr (inr (λ target width order weak. refl))
-
+-- ---- each operation: of an object below 4 bytes by a loop over its word, a compare-exchange or a nand by a loop of its own, and else by one access
 module _ (target : Target) (width : Width) (order : Order) (weak : Bool) where
   abbrev piece : Op → ℕ → List (RvInstr × Tag)
   piece o start = (direct_expansions target o width order weak).piece start
 
-  -- ---- its size, with that of the code that loads and stores its registers
-  abbrev IsBounded : Op → Type 0
-  IsBounded o = (start : ℕ) → 3 * words_taken o width + length (piece o start) + 3 * words_given o width ≤ 28
+  update_is : (o : RmwOp) → (o ≡ rmw.Nand) ⊎ (update_of false target o width order weak ≡ rounded (rounding target (Atomic (op.Rmw o) width order weak)))
+  update_is rmw.Nand = inl refl
+  update_is _ = inr refl
 
-  exchange_most : (w : Width) (is_weak : Bool) → 3 * words_taken op.Cmpxchg w + length (exchange_code w order is_weak) + 3 * words_given op.Cmpxchg w ≤ 28
-  exchange_most W32 true = omega arith
-  exchange_most W32 false = omega arith
-  exchange_most _ true = omega arith
-  exchange_most _ false = omega arith
+  module _ (start : ℕ) where
+    exchange_most : (narrow : Bool) → length ((exchange_of narrow width order weak).piece start) ≤ 24
+    exchange_most true = masked_few op.Cmpxchg width order weak
+    exchange_most false = exchange_few width weak order
 
-  nand_seven : (w : Width) → length (nand_code w order) ≤ 7
-  nand_seven W32 = omega arith
-  nand_seven _ = omega arith
-
-  pub direct_most : (o : Op) → IsBounded o
-  direct_most o = by (code_is o)
-    where
-      taken : words_taken o width ≤ 4
-      taken = few_taken o width
-
-      given : words_given o width ≤ 3
-      given = few_given o width
-
-      by : IsCode o → IsBounded o
-      by (inl e) = subst IsBounded (sym e) (λ start. exchange_most width weak)
-      by (inr (inl e)) = λ start. let seven = subst (λ (q : Op). length (piece q start) ≤ 7) (sym e) (nand_seven width) in omega (arith, seven, taken, given)
-      by (inr (inr one)) = λ start. let five = one_few target o width order weak (one target width order weak) start in omega (arith, five, taken, given)
-
-  -- ---- it is good where it stands, with code behind it for each word that it gives
-  module _ (n : ℕ) (low : n < 2 ^ 31) (place : ℕ) (some : 1 ≤ place) where
-    abbrev IsFine : Op → Type 0
-    IsFine o = place + length (piece o place) + words_given o width ≤ n + 1 → AreGood n place (piece o place)
-
-    exchange_fine : (w : Width) (is_weak : Bool) → place + length (exchange_code w order is_weak) + words_given op.Cmpxchg w ≤ n + 1 → place + 7 ≤ n
-    exchange_fine W32 true most = omega (arith, most)
-    exchange_fine W32 false most = omega (arith, most)
-    exchange_fine _ true most = omega (arith, most)
-    exchange_fine _ false most = omega (arith, most)
-
-    pub direct_good : (o : Op) → IsFine o
-    direct_good o = by (code_is o)
+    update_most : (narrow : Bool) (o : RmwOp) → length ((update_of narrow target o width order weak).piece start) ≤ 24
+    update_most true o = masked_few (op.Rmw o) width order weak
+    update_most false o = by (update_is o)
       where
-        by : IsCode o → IsFine o
-        by (inl e) = subst IsFine (sym e) (λ most. exchange_good n low width order place some (exchange_fine width weak most) weak)
-        by (inr (inl e)) = subst IsFine (sym e) (λ most. let whole : place + length (nand_code width order) + words_given (op.Rmw rmw.Nand) width ≤ n + 1 = most in nand_good n low width order place some (omega (arith, whole)))
-        by (inr (inr one)) = λ most. straight_good n place (piece o place) (one_straight target o width order weak (one target width order weak) place)
+        by : (o ≡ rmw.Nand) ⊎ (update_of false target o width order weak ≡ rounded (rounding target (Atomic (op.Rmw o) width order weak))) → length ((update_of false target o width order weak).piece start) ≤ 24
+        by (inl e) = subst (λ (q : RmwOp). length ((update_of false target q width order weak).piece start) ≤ 24) (sym e) (nand_few width order)
+        by (inr e) = subst (λ (z : Expansion). length (z.piece start) ≤ 24) (sym e) (let five = one_few target (op.Rmw o) width order weak start in omega (arith, five))
+
+    -- none has more than 24 instructions
+    pub direct_most : (o : Op) → length (piece o start) ≤ 24
+    direct_most op.Cmpxchg = exchange_most (is_narrow width)
+    direct_most (op.Rmw o) = update_most (is_narrow width) o
+    direct_most op.Load = let five = one_few target op.Load width order weak start in omega (arith, five)
+    direct_most op.Store = let five = one_few target op.Store width order weak start in omega (arith, five)
+    direct_most op.Fence = let five = one_few target op.Fence width order weak start in omega (arith, five)
+
+  -- it is good where it stands, with code behind it for each word that it gives
+  module _ (n : ℕ) (low : n < 2 ^ 31) (place : ℕ) (some : 1 ≤ place) where
+    abbrev IsFine : Op → List (RvInstr × Tag) → Type 0
+    IsFine o is = place + length is + words_given o width ≤ n + 1 → AreGood n place is
+
+    exchange_end : (w : Width) (is_weak : Bool) → place + length (exchange_code w order is_weak) + words_given op.Cmpxchg w ≤ n + 1 → place + 7 ≤ n
+    exchange_end W32 true most = omega (arith, most)
+    exchange_end W32 false most = omega (arith, most)
+    exchange_end _ true most = omega (arith, most)
+    exchange_end _ false most = omega (arith, most)
+
+    exchange_fine : (narrow : Bool) → IsFine op.Cmpxchg ((exchange_of narrow width order weak).piece place)
+    exchange_fine true most = let long : place + length (masked_code op.Cmpxchg width order weak) + words_given op.Cmpxchg width ≤ n + 1 = most in masked_good n low width order weak place some op.Cmpxchg (omega (arith, long))
+    exchange_fine false most = exchange_good n low width order place some (exchange_end width weak most) weak
+
+    update_fine : (narrow : Bool) (o : RmwOp) → IsFine (op.Rmw o) ((update_of narrow target o width order weak).piece place)
+    update_fine true o most = let long : place + length (masked_code (op.Rmw o) width order weak) + words_given (op.Rmw o) width ≤ n + 1 = most in masked_good n low width order weak place some (op.Rmw o) (omega (arith, long))
+    update_fine false o most = by (update_is o) most
+      where
+        by : (o ≡ rmw.Nand) ⊎ (update_of false target o width order weak ≡ rounded (rounding target (Atomic (op.Rmw o) width order weak))) → IsFine (op.Rmw o) ((update_of false target o width order weak).piece place)
+        by (inl e) = subst (λ (q : RmwOp). IsFine (op.Rmw q) ((update_of false target q width order weak).piece place)) (sym e) (λ most. let long : place + length (nand_code width order) + words_given (op.Rmw rmw.Nand) width ≤ n + 1 = most in nand_good n low width order place some (omega (arith, long)))
+        by (inr e) = subst (λ (z : Expansion). IsFine (op.Rmw o) (z.piece place)) (sym e) (λ most. straight_good n place (one_access target (op.Rmw o) width order weak place) (one_straight target (op.Rmw o) width order weak place))
+
+    pub direct_good : (o : Op) → IsFine o (piece o place)
+    direct_good op.Cmpxchg most = exchange_fine (is_narrow width) most
+    direct_good (op.Rmw o) most = update_fine (is_narrow width) o most
+    direct_good op.Load most = straight_good n place (one_access target op.Load width order weak place) (one_straight target op.Load width order weak place)
+    direct_good op.Store most = straight_good n place (one_access target op.Store width order weak place) (one_straight target op.Store width order weak place)
+    direct_good op.Fence most = straight_good n place (one_access target op.Fence width order weak place) (one_straight target op.Fence width order weak place)

@@ -1,5 +1,5 @@
 -- The code of operations by one access is short, and its instructions go on with numbers in their ranges.
-use Rattle.std.proofs.Common.{◌≡◌, ℕ, ◌+◌, ◌<◌, ◌≤◌, Bool, List, [], ◌∷◌, ◌++◌, length, sym, subst, arith, length-append}
+use Rattle.std.proofs.Common.{ℕ, ◌+◌, ◌<◌, ◌≤◌, Bool, List, [], ◌∷◌, ◌++◌, length, arith, length-append}
 use Rattle.ax_words.specs.declared.mark.Op.{Op}
 use Rattle.ax_words.specs.declared.mark.Op.TheVariants as op
 use Rattle.ax_words.specs.declared.operation.RmwOp.{RmwOp}
@@ -8,6 +8,7 @@ use Rattle.ax_words.specs.declared.order.Order.{Order}
 use Rattle.ax_words.specs.declared.order.Order.TheVariants.{Unordered, Monotonic, Acquire, Release, AcqRel, SeqCst}
 use Rattle.ax_words.specs.declared.width.Width.{Width}
 use Rattle.ax_words.specs.declared.width.Width.TheVariants.{W32}
+use Rattle.ax_tags.specs.declared.tags.Tag.{Tag}
 use Rattle.ax_tags.specs.declared.tags.Tag.TheVariants.{Act}
 use Rattle.ax_target.specs.declared.target.Target.{Target}
 use Rattle.ax_rv.specs.declared.instructions.FenceSets.{FenceSets}
@@ -19,7 +20,6 @@ use Rattle.ax_expand.proofs.Straight.{silent_length}
 use Rattle.ax_fine.specs.OnBytes.{atomic_doing}
 use Rattle.ax_llsc.specs.Codes.{Atomic, atomic_rounding, before_load, before_store, behind_load, fence_instr, fences, operand_of, prepare, rounded, rounding}
 use Rattle.ax_llsc.specs.Loops.{clear}
-use Rattle.ax_direct_rv.specs.Direct.{direct_expansions}
 use Rattle.ax_sound_rv.proofs.Instructions.{AllGo, AreStraight, GoesOn, go_both, straight_both, straight_silently}
 
 -- ---- its parts
@@ -117,13 +117,13 @@ round_few before access after h =
     let few = h.few in
     omega (arith, a, b, c, few)
 
--- ---- one access, in an operation's code
-abbrev pub IsOne : Target → Op → Width → Order → Bool → Type 0
-IsOne target o width order weak = direct_expansions target o width order weak ≡ rounded (rounding target (Atomic o width order weak))
+-- ---- the code of an operation by one access
+module _ (target : Target) (o : Op) (width : Width) (order : Order) (weak : Bool) (start : ℕ) where
+  abbrev pub one_access : List (RvInstr × Tag)
+  one_access = (rounded (rounding target (Atomic o width order weak))).piece start
 
-module _ (target : Target) (o : Op) (width : Width) (order : Order) (weak : Bool) (one : IsOne target o width order weak) (start : ℕ) where
-  pub one_straight : AreStraight ((direct_expansions target o width order weak).piece start)
-  one_straight = let z = atomic_rounding (atomic_doing target o width order weak) o width order in subst (λ e. AreStraight (e.piece start)) (sym one) (round_straight z.before z.access z.after (round_is (atomic_doing target o width order weak) o width order))
+  pub one_straight : AreStraight one_access
+  one_straight = let z = atomic_rounding (atomic_doing target o width order weak) o width order in round_straight z.before z.access z.after (round_is (atomic_doing target o width order weak) o width order)
 
-  pub one_few : length ((direct_expansions target o width order weak).piece start) ≤ 5
-  one_few = let z = atomic_rounding (atomic_doing target o width order weak) o width order in subst (λ e. length (e.piece start) ≤ 5) (sym one) (round_few z.before z.access z.after (round_is (atomic_doing target o width order weak) o width order))
+  pub one_few : length one_access ≤ 5
+  one_few = let z = atomic_rounding (atomic_doing target o width order weak) o width order in round_few z.before z.access z.after (round_is (atomic_doing target o width order weak) o width order)

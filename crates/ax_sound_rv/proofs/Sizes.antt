@@ -1,4 +1,4 @@
--- How long the code of a line is: at most 31 instructions, and at least one where a function can end with it.
+-- How long the code of a line is: at most 31 instructions for each unit of its weight, and at least one where a function can end with it.
 use Rattle.std.proofs.Common.{◌≡◌, ℕ, ◌+◌, ◌-◌, ◌*◌, ◌≤◌, pos, Bool, true, false, List, [], ◌∷◌, ◌++◌, length, arith, length-append}
 use Rattle.std.specs.Prelude.{if◌then◌else◌, nat_eq, nat_lt}
 use Rattle.std.proofs.lemmas.Bool.{false≢true}
@@ -16,7 +16,7 @@ use Rattle.ax_mid.specs.declared.instruction.MidInst.{MidInst}
 use Rattle.ax_mid.specs.declared.instruction.MidInst.TheVariants as mid
 use Rattle.ax_mid.specs.declared.instruction.MidOp.{MidOp}
 use Rattle.ax_mid.specs.declared.instruction.MidOp.TheVariants as op
-use Rattle.ax_mid.specs.WellFormed.{is_last}
+use Rattle.ax_mid.specs.WellFormed.{is_last, weight}
 use Rattle.ax_expand.specs.Standing.{silently}
 use Rattle.ax_expand.proofs.Straight.{silent_length}
 use Rattle.ax_emit.specs.Atomics.{gets_all, puts_all}
@@ -25,7 +25,7 @@ use Rattle.ax_emit_rv.specs.Slots.{down, near_slots, put_first, put_first_by, pu
 use Rattle.ax_emit_rv.proofs.Atomics.{puts_short}
 use Rattle.ax_emit_rv.proofs.Computing.{gets_short}
 use Rattle.ax_direct_rv.specs.Direct.{direct_expansions}
-use Rattle.ax_direct_rv.proofs.Words.{AreWords, HasWords}
+use Rattle.ax_direct_rv.proofs.Words.{AreWords, HasWords, few_registers}
 use Rattle.ax_sound_rv.proofs.Instructions.{homes_length}
 use Rattle.ax_sound_rv.proofs.Loops.{direct_most}
 
@@ -89,7 +89,7 @@ module _ {R : Type 0} (key : R → ℕ) (depth : ℕ) (behind : ℕ → ℕ) (ta
   abbrev pub direct_piece : MidInst R → (ℕ → ℕ) → ℕ → List (RvInstr × Tag)
   direct_piece i places start = piece_of key depth behind (direct_expansions target) i places start
 
-  atomic_size : (o : Op) (width : Width) (order : Order) (weak : Bool) (address : R) (args results : List R) (places : ℕ → ℕ) (start : ℕ) → AreWords o width args results → length (direct_piece (mid.Atomic o width order weak address args results) places start) ≤ 31
+  atomic_size : (o : Op) (width : Width) (order : Order) (weak : Bool) (address : R) (args results : List R) (places : ℕ → ℕ) (start : ℕ) → AreWords o width args results → length (direct_piece (mid.Atomic o width order weak address args results) places start) ≤ 31 * 8
   unfolding piece_of
   atomic_size o width order weak address args results places start words =
       let before : List (ℕ × ℕ) = (10, key address) ∷ homes_from key first_argument args in
@@ -98,15 +98,16 @@ module _ {R : Type 0} (key : R → ℕ) (depth : ℕ) (behind : ℕ → ℕ) (ta
       let a = wrapped_size (gets_all rv_table before) middle (puts_all rv_table after) in
       let b = gets_short before in
       let c = puts_short after in
-      let d = direct_most target width order weak o (start + length (gets_all rv_table before)) in
+      let d = direct_most target width order weak (start + length (gets_all rv_table before)) o in
       let e = homes_length key first_argument args in
       let f = homes_length key first_result results in
-      let taken = words.0 in
-      let given = words.1 in
+      let registers = few_registers o width args results words in
+      let taken = registers.0 in
+      let given = registers.1 in
       omega (arith, a, b, c, d, e, f, taken, given)
 
-  pub size_most : (i : MidInst R) (places : ℕ → ℕ) (start : ℕ) → HasWords i → length (direct_piece i places start) ≤ 31
-  unfolding piece_of
+  pub size_most : (i : MidInst R) (places : ℕ → ℕ) (start : ℕ) → HasWords i → length (direct_piece i places start) ≤ 31 * weight i
+  unfolding piece_of weight
   size_most (mid.Const to n) places start h = let a = computed_size key to [] (Li 7 n ∷ []) in omega (arith, a)
   size_most (mid.Copy to from) places start h = let a = computed_size key to ((7, key from) ∷ []) [] in omega (arith, a)
   size_most (mid.Apply o to left right) places start h = let a = computed_size key to ((5, key left) ∷ (6, key right) ∷ []) (op_code o) in let b = op_two o in omega (arith, a, b)

@@ -1,6 +1,7 @@
 -- Lines of which each has a property, and their sizes, one after the other.
-use Rattle.std.proofs.Common.{◌≡◌, ℕ, suc, ◌+◌, ◌*◌, ◌≤◌, List, [], ◌∷◌, Some, length, refl, arith, slice_get}
+use Rattle.std.proofs.Common.{◌≡◌, ℕ, suc, ◌+◌, ◌*◌, ◌≤◌, List, [], ◌∷◌, Some, refl, arith, slice_get}
 use Rattle.ax_mid.specs.declared.code.Line.{Line}
+use Rattle.ax_mid.specs.WellFormed.{weight, weight_of}
 use Rattle.ax_emit.specs.Passes.{place_end}
 
 -- ---- each of these lines has a property
@@ -22,7 +23,7 @@ module _ {R : Type 0} (size : Line R → ℕ) where
   end_is at [] = omega arith
   end_is at (line ∷ lines) = let e = end_is (at + size line) lines in omega (arith, e)
 
-  -- lines of at most 31 instructions each
-  pub sizes_most : (lines : List (Line R)) → AllLines (λ line. size line ≤ 31) lines → sizes lines ≤ 31 * length lines
+  -- lines of at most 31 instructions for each unit of their weight
+  pub sizes_most : (lines : List (Line R)) → AllLines (λ line. size line ≤ 31 * weight line.inst) lines → sizes lines ≤ 31 * weight_of lines
   sizes_most [] h = omega arith
   sizes_most (line ∷ lines) h = let a = h.0 in let b = sizes_most lines h.1 in omega (arith, a, b)

@@ -1,5 +1,5 @@
 -- The image of an accepted module is short, and sound.
-use Rattle.std.proofs.Common.{◌≡◌, ℕ, zero, suc, ◌+◌, ◌^◌, ◌<◌, ◌≤◌, inl, true, List, [], ◌∷◌, Some, None, length, refl, sym, ap, ◌∙◌, subst, arith, slice_get}
+use Rattle.std.proofs.Common.{◌≡◌, ℕ, zero, suc, ◌+◌, ◌*◌, ◌^◌, ◌<◌, ◌≤◌, inl, true, List, [], ◌∷◌, Some, None, length, refl, sym, ap, ◌∙◌, subst, arith, slice_get}
 use Rattle.std.proofs.lemmas.List.{length-map}
 use Rattle.std.proofs.lemmas.List.Elements.{All-map}
 use Rattle.std.proofs.lemmas.Option.{none-some, same_Some}
@@ -20,7 +20,7 @@ use Rattle.ax_rv.specs.Instructions.{IsInstr, rv_kind}
 use Rattle.ax_mid.specs.declared.code.Line.{Line}
 use Rattle.ax_mid.specs.declared.registers.Virtual.{Virtual}
 use Rattle.ax_mid.specs.Machine.{behind_label}
-use Rattle.ax_mid.specs.WellFormed.{StandsIn, is_last}
+use Rattle.ax_mid.specs.WellFormed.{StandsIn, is_last, weight, weight_of}
 use Rattle.ax_emit.specs.Images.{Drafted}
 use Rattle.ax_emit.specs.Passes.{place_end}
 use Rattle.ax_emit_rv.specs.Code.{code_of, size_of}
@@ -110,9 +110,9 @@ module _ (program : SourceProgram) where
 
     few_sizes : sizes size lines ≤ 2116943872
     few_sizes =
-        let all = all_lines (λ line. size line ≤ 31) lines (λ place line at. size_most key frame_depth behind program.target line.inst (λ j. 0) 0 (has_words line.tag line.inst (laws.small program accepted place line at).shaped)) in
+        let all = all_lines (λ line. size line ≤ 31 * weight line.inst) lines (λ place line at. size_most key frame_depth behind program.target line.inst (λ j. 0) 0 (has_words line.tag line.inst (laws.small program accepted place line at).shaped)) in
         let a = sizes_most size lines all in
-        let b : length lines ≤ 68288512 = rules.few in
+        let b : weight_of lines ≤ 68288512 = rules.light in
         omega (arith, a, b)
 
     short : IsShort program

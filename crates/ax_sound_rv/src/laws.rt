@@ -1,5 +1,5 @@
 //! What holds of each image of a module for RV64 whose atomic instructions are single instructions or
-//! pair loops.
+//! loops of a linked load and a pair store.
 
 ghost use Rattle.ax_sound_rv.specs.Short.{DirectImagesAreShort};
 ghost use Rattle.ax_sound_rv.specs.Sound.{DirectImagesAreSound};

@@ -1,5 +1,5 @@
-//! Images of modules for RV64 whose atomic instructions are single instructions or pair loops are
-//! short and sound.
+//! Images of modules for RV64 whose atomic instructions are single instructions or loops of a linked
+//! load and a pair store are short and sound.
 #![tactic(auto)]
 
 pub mod laws;

@@ -44,7 +44,7 @@ use Rattle.ax_loops.proofs.Updating.{wrote_sees}
 use Rattle.ax_loops.specs.Registers.{all_but}
 use Rattle.ax_trials.specs.PairExchange.{AreExchangeRegisters, CompareExchange, ExchangeRegisters, exchange_code, exchanging_on}
 use Rattle.ax_trials.proofs.Pairs.{read_is}
-use Rattle.ax_loops.proofs.Registers.{apart, cut_same, is_held, with_result}
+use Rattle.ax_loops.proofs.Registers.{apart, compares_whole, cut_same, is_held, with_result}
 
 -- ---- the operation
 abbrev exchange : ExchangeRegisters → Exchange Shared
@@ -53,7 +53,8 @@ exchange r =
       bytes = 8;
       address = λ regs. regs r.address;
       expected = λ regs. regs r.expected % 2 ^ 64;
-      desired = λ regs. regs r.desired % 2 ^ 64;
+      part = λ regs number. number;
+      leaves = λ regs number. regs r.desired % 2 ^ 64;
       gives = λ regs number stored. at_place (at_place regs r.old (number % 2 ^ 64)) r.flag (number_of_flag stored);
       finds = λ regs w. number_at w.mem (regs r.address) 8;
     }
@@ -98,7 +99,7 @@ module _ (z : CompareExchange) where
       record {
         width = refl;
         stores = λ p n regs seen w sees empty fit same.
-            happens regs w (regs r.expected % 2 ^ 64) true (λ d. Stores bytes_world (exchange r) n p regs d) (o.happens An_act p regs seen w) (acts_as p regs seen w (empty_pending p n w sees empty)) same (eq-eqb _ _ same)
+            happens regs w (regs r.expected % 2 ^ 64) true (λ d. Stores bytes_world (exchange r) n p regs (number_at w.mem (regs r.address) 8) d) (o.happens An_act p regs seen w) (acts_as p regs seen w (empty_pending p n w sees empty)) same (eq-eqb _ _ same)
             (record { regs = refl; output = refl; excused = refl }, λ lib new wrote. wrote_sees lib p _ n new w sees wrote);
         differs = λ p n regs seen w sees empty fit apart.
             happens regs w (number_at w.mem (regs r.address) 8) false (λ d. Answers bytes_world (exchange r) n ((exchange r).gives regs (number_at w.mem (regs r.address) 8) false) d) (o.happens An_act p regs seen w) (acts_as p regs seen w (empty_pending p n w sees empty)) refl (ne_eqb _ _ apart)
@@ -164,6 +165,7 @@ module _ (keeps : ℕ → Bool) (acquire release : Ending) (z : CompareExchange)
         old = g.old;
         rest = Zeros;
         expected = g.expected;
+        mask = None;
         failed = g.flag;
         holds = held;
         back = back;
@@ -336,7 +338,7 @@ module _ (keeps : ℕ → Bool) (acquire release : Ending) (z : CompareExchange)
     flag_is : (n : ℕ) → holds condition.NotEqual (read g.flag (go_with g.flag n c2)) (read 0 (go_with g.flag n c2)) ≡ not (nat_eq n 0)
     flag_is n = ap (λ m. not (nat_eq m 0)) (read_is g.flag (go_with g.flag n c2) h.some_flag ∙ at_same c.regs g.flag n)
 
-    strong_pair : Links strong → number ≡ regs g.expected % 2 ^ 64 → AtPair rv_kind keeps (exchanging_on z) (exchange g) strong start regs c2
+    strong_pair : Links strong → number ≡ regs g.expected % 2 ^ 64 → AtPair rv_kind keeps (exchanging_on z) (exchange g) strong start regs number c2
     strong_pair q same =
         let s = linked false 3 strong.behind 1 q in
         let at = q.place in
@@ -381,7 +383,7 @@ module _ (keeps : ℕ → Bool) (acquire release : Ending) (z : CompareExchange)
           };
         }
 
-    weak_pair : Links weak → number ≡ regs g.expected % 2 ^ 64 → AtPair rv_kind keeps (exchanging_on z) (exchange g) weak start regs c2
+    weak_pair : Links weak → number ≡ regs g.expected % 2 ^ 64 → AtPair rv_kind keeps (exchanging_on z) (exchange g) weak start regs number c2
     weak_pair q same =
         let s = linked true 4 weak.behind 0 q in
         let at = q.place in
@@ -396,8 +398,8 @@ module _ (keeps : ℕ → Bool) (acquire release : Ending) (z : CompareExchange)
           fails = record { steps = 2; few = omega arith; way = subst (λ m. Gone weak start regs m false 2 (go_with g.flag 1 c2)) same (finish start regs number false 1 (go_with g.flag 1 c2) place3 room3 (reads_flag regs number 1 c2 s2) (at_same c.regs g.flag 1) refl) };
         }
 
-  agrees : (start : ℕ) (c : Processor) (regs : ℕ → ℕ) (w : Shared) (fit : (exchanging_on z).fits regs w) → Reads regs (regs g.expected % 2 ^ 64) c → holds condition.NotEqual (read g.old c) (read g.expected c) ≡ false
-  agrees start c regs w fit s = agree regs (regs g.expected % 2 ^ 64) c s (cut_same (regs g.expected) fit.1.0)
+  agrees : (start : ℕ) (c : Processor) (regs : ℕ → ℕ) (number : ℕ) (w : Shared) (fit : (exchanging_on z).fits regs w) → number ≡ regs g.expected % 2 ^ 64 → Reads regs number c → holds condition.NotEqual (read g.old c) (read g.expected c) ≡ false
+  agrees start c regs number w fit same s = agree regs number c s (same ∙ cut_same (regs g.expected) fit.1.0)
 
   address_is : (c : Processor) (regs : ℕ → ℕ) → Keeps held c.regs regs → rv_kind.effect_of (LoadReserved Double acquire g.old g.address) c ≡ effect.Link g.old (regs g.address) 8 Zeros
   address_is c regs s = ap (λ a. effect.Link g.old a 8 Zeros) (read_is g.address c h.some_address ∙ s g.address (held_is g.address h.address h.address_stays))
@@ -410,11 +412,10 @@ module _ (keeps : ℕ → Bool) (acquire release : Ending) (z : CompareExchange)
         few = omega arith;
         kept = λ q e. (let a = apart_of q e in (a.0, a.1));
         fills = λ before number. refl;
-        expects = held_is g.expected h.expected h.expected_stays;
-        expected = λ regs w fit. refl;
+        compares = λ c regs number w fit s small. compares_whole 8 number g.expected c regs (s g.expected (held_is g.expected h.expected h.expected_stays)) small;
         links = λ c regs w fit s. address_is c regs s;
         differs = λ start c regs number w fit q ne. record { steps = 3; few = omega arith; way = strong_leaves start c regs number w fit q ne };
-        equals = λ start c regs w fit q.
+        equals = λ start c regs number w fit q same.
             record {
               forth = 1;
               few = omega arith;
@@ -427,8 +428,8 @@ module _ (keeps : ℕ → Bool) (acquire release : Ending) (z : CompareExchange)
                   after = go_to (c.place + 1) c;
                   place = q.place;
                   stands = refl;
-                  leaves = passed c condition.NotEqual g.old g.expected (pos 3) (agrees start c regs w fit (linked start c regs (regs g.expected % 2 ^ 64) w fit false 3 strong.behind 1 q));
-                  next = strong_pair start c regs (regs g.expected % 2 ^ 64) w fit q refl;
+                  leaves = passed c condition.NotEqual g.old g.expected (pos 3) (agrees start c regs number w fit same (linked start c regs number w fit false 3 strong.behind 1 q));
+                  next = strong_pair start c regs number w fit q same;
                 };
               };
             };
@@ -442,11 +443,10 @@ module _ (keeps : ℕ → Bool) (acquire release : Ending) (z : CompareExchange)
         few = omega arith;
         kept = λ q e. (let a = apart_of q e in (a.0, a.1));
         fills = λ before number. refl;
-        expects = held_is g.expected h.expected h.expected_stays;
-        expected = λ regs w fit. refl;
+        compares = λ c regs number w fit s small. compares_whole 8 number g.expected c regs (s g.expected (held_is g.expected h.expected h.expected_stays)) small;
         links = λ c regs w fit s. address_is c regs s;
         differs = λ start c regs number w fit q ne. record { steps = 2; few = omega arith; way = weak_leaves start c regs number w fit q ne };
-        equals = λ start c regs w fit q.
+        equals = λ start c regs number w fit q same.
             record {
               forth = 1;
               few = omega arith;
@@ -459,8 +459,8 @@ module _ (keeps : ℕ → Bool) (acquire release : Ending) (z : CompareExchange)
                   after = go_to (c.place + 1) c;
                   place = q.place;
                   stands = refl;
-                  leaves = passed c condition.NotEqual g.old g.expected (pos 4) (agrees start c regs w fit (linked start c regs (regs g.expected % 2 ^ 64) w fit true 4 weak.behind 0 q));
-                  next = weak_pair start c regs (regs g.expected % 2 ^ 64) w fit q refl;
+                  leaves = passed c condition.NotEqual g.old g.expected (pos 4) (agrees start c regs number w fit same (linked start c regs number w fit true 4 weak.behind 0 q));
+                  next = weak_pair start c regs number w fit q same;
                 };
               };
             };

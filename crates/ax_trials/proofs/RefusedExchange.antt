@@ -9,6 +9,7 @@ use Rattle.ax_isa.specs.Run.{step}
 use Rattle.ax_isa.specs.Tells.{Done}
 use Rattle.ax_rv.specs.Instructions.{rv_kind}
 use Rattle.ax_follow.specs.Contract.{Other, Own, stage_start}
+use Rattle.ax_fine.specs.OnBytes.{AreWords}
 use Rattle.ax_expand.specs.Bytes.{bytes_world}
 use Rattle.ax_expand.specs.Expands.{Expands, reading_of}
 use Rattle.ax_expand.specs.Operation.{Operation}
@@ -22,8 +23,11 @@ module _ (target : Target) (order : Order) (weak : Bool) where
   abbrev exchange : Operation Shared
   exchange = exchanging_on (exchange_at target order weak)
 
-  exchange_fits : (n : Noted) → all_inside n.storage.inside 65536 8 ≡ true → ((b : ℕ) → n.storage.mem b < 2 ^ 8) → exchange.fits regs (shown n)
-  exchange_fits n inside small = (record { aligned = refl; shared = omega arith; inside = inside; small = masked_small n.storage.mem small }, (omega arith, (omega arith, tt)))
+  exchange_fits : (n : Noted) → all_inside n.storage.inside 65536 8 ≡ true → AreWords n.storage.inside → ((b : ℕ) → n.storage.mem b < 2 ^ 8) → exchange.fits regs (shown n)
+  exchange_fits n inside words small = (record { aligned = refl; shared = omega arith; inside = inside; words = words; small = masked_small n.storage.mem small }, (omega arith, (omega arith, tt)))
+
+all_words : AreWords (λ b. true)
+all_words = λ a below is. refl
 
 -- the look is no event that ends it
 module _ (target : Target) (order : Order) (keeps : ℕ → Bool) (most : ℕ) (e : Expands rv_kind bytes_world most keeps 2 (λ start. early_code) (exchanging_on (exchange_at target order true))) where
@@ -39,11 +43,11 @@ module _ (target : Target) (order : Order) (keeps : ℕ → Bool) (most : ℕ) (
   early_breaks : ⊥
   early_breaks =
       let run = would early early_code keeps most early_has e (Own ∷ Own ∷ []) in
-      let looks = run.1 (shown zeros) (may early early_code keeps most stage_start cpu zeros refl refl (exchange_fits target order true zeros refl (λ b. omega arith)) refl) in
+      let looks = run.1 (shown zeros) (may early early_code keeps most stage_start cpu zeros refl refl (exchange_fits target order true zeros refl all_words (λ b. omega arith)) refl) in
       let leaves = (looks.goes refl).1 (shown e1.noted)
       (record {
         sees = shows e1.noted;
-        fits = exchange_fits target order true e1.noted refl (λ b. omega arith);
+        fits = exchange_fits target order true e1.noted refl all_words (λ b. omega arith);
         fair = tt;
         flat = λ f. refl;
         empty = λ f. refl;
@@ -84,13 +88,13 @@ module _ (target : Target) (order : Order) (keeps : ℕ → Bool) (most : ℕ) (
   once_breaks : ⊥
   once_breaks =
       let run = would strong once_code keeps most once_has e (Own ∷ Other m1 ∷ Own ∷ Own ∷ Own ∷ Own ∷ []) in
-      let links = run.1 (shown zeros) (may strong once_code keeps most stage_start cpu zeros refl refl (exchange_fits target order false zeros refl (λ b. omega arith)) refl) in
+      let links = run.1 (shown zeros) (may strong once_code keeps most stage_start cpu zeros refl refl (exchange_fits target order false zeros refl all_words (λ b. omega arith)) refl) in
       let between = (links.goes refl).1 (another_may o1.noted) in
       let small = another_small o1.noted (λ b. omega arith) in
-      let goes_on = between.1 (shown m1) (may strong once_code keeps most _ o1.processor m1 refl refl (exchange_fits target order false m1 refl small) refl) in
-      let fails = (goes_on.goes refl).1 (shown o2.noted) (may strong once_code keeps most _ o2.processor o2.noted refl refl (exchange_fits target order false o2.noted refl small) refl) in
-      let tells = (fails.goes refl).1 (shown o3.noted) (may strong once_code keeps most _ o3.processor o3.noted refl refl (exchange_fits target order false o3.noted refl small) refl) in
-      let leaves = (tells.goes refl).1 (shown o4.noted) (may strong once_code keeps most _ o4.processor o4.noted refl refl (exchange_fits target order false o4.noted refl small) refl) in
+      let goes_on = between.1 (shown m1) (may strong once_code keeps most _ o1.processor m1 refl refl (exchange_fits target order false m1 refl all_words small) refl) in
+      let fails = (goes_on.goes refl).1 (shown o2.noted) (may strong once_code keeps most _ o2.processor o2.noted refl refl (exchange_fits target order false o2.noted refl all_words small) refl) in
+      let tells = (fails.goes refl).1 (shown o3.noted) (may strong once_code keeps most _ o3.processor o3.noted refl refl (exchange_fits target order false o3.noted refl all_words small) refl) in
+      let leaves = (tells.goes refl).1 (shown o4.noted) (may strong once_code keeps most _ o4.processor o4.noted refl refl (exchange_fits target order false o4.noted refl all_words small) refl) in
       ⊎_elim (λ f. (let g : 1 ≡ 0 = f in omega (arith, g))) (λ f. false≢true f.0) leaves.stays
 
 pub once_refused : IsNoExchange false once_code

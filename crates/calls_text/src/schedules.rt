@@ -2,7 +2,7 @@
 
 use crate::modules::module_in;
 use ax_rows::Fault;
-use ax_sched::{Cause, Item, SchedFault, event_at, mix, read_schedule};
+use ax_sched::{Cause, Glance, Item, SchedFault, mix, read_schedule};
 use ax_target::named;
 use ax_words::Event;
 use std::alloc::{AllocError, Global};
@@ -22,6 +22,7 @@ fn push_item(out: &mut String, item: Item) -> Result<(), AllocError> {
         Item::Step { p, n } => write!(out, ", step {p} {n}"),
         Item::Drain { p, n } => write!(out, ", drain {p} {n}"),
         Item::Drop { p, n } => write!(out, ", drop {p} {n}"),
+        Item::Link { p, n } => write!(out, ", link {p} {n}"),
         Item::Round { n } => write!(out, ", round {n}"),
         Item::Random { seed, n } => write!(out, ", random {seed} {n}"),
     }
@@ -84,10 +85,13 @@ pub(crate) fn event(alloc: Global, words: &[&str]) -> Result<String, Fault> {
     let target = named(target).ok_or(Fault::Row)?;
     let (processors, k) = (processors.parse::<u8>()?, k.parse::<u64>()?);
     let item = item_in(directive)?;
-    if k >= item.times() || processors == 0 {
+    if processors == 0 {
         return Err(Fault::Row);
     }
-    Ok(event_words(alloc, event_at(item, processors, target, k))?)
+    let event = item
+        .next_event(&Glance::unseen(k, processors), target)
+        .ok_or(Fault::Row)?;
+    Ok(event_words(alloc, event)?)
 }
 
 /// A number of the generator.

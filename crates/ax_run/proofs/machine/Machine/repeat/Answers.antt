@@ -1,29 +1,39 @@
-use Rattle.std.proofs.Common.{◌≡◌, ℕ, ◌<◌, ◌++◌, List, [], ◌∷◌, length, take, ap, sym, ◌∙◌, append_assoc, slice_index_or, arith}
-use Rattle.ax_words.specs.declared.event.Event.{Event}
-use Rattle.ax_words.specs.declared.event.Event.TheVariants.{Step}
+use Rattle.std.proofs.Common.{◌≡◌, ℕ, ◌+◌, ◌-◌, ◌<◌, ◌≤◌, ◌++◌, [], length, refl, ap, sym, ◌∙◌, subst, append-nil, arith, Option, Some, None}
 use Rattle.ax_sched.specs.Events.{item_events}
 use Rattle.ax_sched.specs.Plan.{times_of}
-use Rattle.ax_sched.proofs.EventsLemmas.{events_more, events_all}
+use Rattle.ax_run.specs.Machine.{run_of, seen_in}
+use Rattle.ax_run.proofs.Plans.{event_made, event_none}
 use Rattle.ax_run.proofs.machine.Machine.repeat.Goals as goal
 
-pub loop-k-preserved : goal.loop-k-preserved
-loop-k-preserved c =
-    let n : ℕ = length c.args.self.now.processors in
-    let all : List Event = item_events c.args.target (length c.args.self.now.processors) c.args.item in
-    let was : List Event = c.args.self.now.events in
-    let far = c.loop-k.invariant in
-    let e : Event = c.event_at.result in
-    let lt : c.loop-k.k < times_of c.args.item = omega (arith, c.loop-k-test.true, c.times-k-end.ensures) in
-    let same : e ≡ slice_index_or all c.loop-k.k (Step 0) = c.event_at.ensures.is ∙ ap (λ k. slice_index_or (item_events c.args.target k c.args.item) c.loop-k.k (Step 0)) c.processors-processors.ensures.count in
-    let more = events_more c.args.target n c.args.item c.loop-k.k e lt same in (
+only_none : {A : Type 0} (o : Option A) → ((x : A) → o ≡ Some x → ⊥) → o ≡ None
+only_none None h = refl
+only_none (Some x) h = absurd (h x refl)
+
+pub loop-number-preserved : goal.loop-number-preserved
+loop-number-preserved c =
+    let far = c.loop-number.invariant in
+    let kept = far.3 in
+    let more = c.happen.ensures.kept in
+    let k = c.loop-number.number in
+    let item = c.args.item in
+    let less : k < times_of item = omega (arith, c.loop-number-test.true, c.times-number-end.ensures) in (
       λ start told. c.happen.ensures.tells start (far.0 start told),
-      c.happen.ensures.events ∙ ap (λ x. x ++ e ∷ []) far.1 ∙ append_assoc was (take c.loop-k.k all) (e ∷ []) ∙ ap (λ x. was ++ x) (sym more),
+      λ start told. event_made c.args.target c.args.self.now c.loop-number.self c.happen.new.self kept more item k c.in-Some.e start less c.happen.ensures.events (sym (c.glance.ensures.sees c.args.target (run_of c.loop-number.self start) (far.0 start told).shows) ∙ sym c.next_event.ensures.is ∙ c.in-Some.is) ∙ far.1 start told,
       omega (arith, far.2, c.happen.ensures.room),
-      record { image = c.happen.ensures.kept.image ∙ far.3.image; count = c.happen.ensures.kept.count ∙ far.3.count },
+      record { image = more.image ∙ kept.image; count = more.count ∙ kept.count },
     )
+
+pub returns-in_default-clause-events : goal.returns-in_default-clause-events
+returns-in_default-clause-events c =
+    λ start told.
+    let far = c.loop-number.invariant in
+    let none = only_none c.next_event.result c.in_default.not-Some in
+    let rest = event_none c.args.target c.args.self.now c.loop-number.self c.loop-number.self far.3 (record { image = refl; count = refl }) c.args.item (times_of c.args.item - c.loop-number.number) c.loop-number.number start (sym (c.glance.ensures.sees c.args.target (run_of c.loop-number.self start) (far.0 start told).shows) ∙ sym c.next_event.ensures.is ∙ none) in
+    sym (append-nil c.loop-number.self.events) ∙ ap (λ l. c.loop-number.self.events ++ l) (sym rest) ∙ far.1 start told
 
 pub returns-clause-events : goal.returns-clause-events
 returns-clause-events c =
-    let far = c.loop-k.invariant in
-    let at : c.loop-k.k ≡ times_of c.args.item = omega (arith, c.loop-k-test.false, c.times-k-end.ensures, c.loop-k.auto.k-end) in
-    far.1 ∙ ap (λ x. c.args.self.now.events ++ x) (events_all c.args.target (length c.args.self.now.processors) c.args.item c.loop-k.k at)
+    λ start told.
+    let far = c.loop-number.invariant in
+    let done : times_of c.args.item - c.loop-number.number ≡ 0 = omega (arith, c.loop-number-test.false, c.times-number-end.ensures) in
+    sym (append-nil c.loop-number.self.events) ∙ ap (λ n. c.loop-number.self.events ++ item_events (seen_in c.args.self.now) c.args.target c.args.item n c.loop-number.number (run_of c.loop-number.self start)) (sym done) ∙ far.1 start told

@@ -1,11 +1,13 @@
-use Rattle.std.proofs.Common.{◌≡◌, ◌+◌, ◌++◌, length, take}
+use Rattle.std.proofs.Common.{◌≡◌, ◌+◌, ◌-◌, ◌≤◌, ◌++◌, length}
+use Rattle.ax_isa.specs.Run.{Machine}
 use Rattle.ax_sched.specs.Events.{item_events}
-use Rattle.ax_run.specs.Machine.{GoesOn, Kept}
+use Rattle.ax_sched.specs.Plan.{times_of}
+use Rattle.ax_run.specs.Machine.{GoesOn, Kept, Tells, run_of, seen_in}
 use Rattle.ax_run.proofs.machine.Machine.repeat.Given as goal
 
-abbrev pub invariant-loop-k : goal.invariant-loop-k
-invariant-loop-k l =
+abbrev pub invariant-loop-number : goal.invariant-loop-number
+invariant-loop-number l =
     GoesOn l.fn.self l.self
-    × (l.self.events ≡ l.fn.self.events ++ take l.k (item_events l.target (length l.fn.self.processors) l.item))
-    × (l.self.room + l.k ≡ l.fn.self.room)
+    × ((start : Machine) → Tells start l.fn.self → l.self.events ++ item_events (seen_in l.fn.self) l.target l.item (times_of l.item - l.number) l.number (run_of l.self start) ≡ l.fn.self.events ++ item_events (seen_in l.fn.self) l.target l.item (times_of l.item) 0 (run_of l.fn.self start))
+    × (l.self.room + l.number ≡ l.fn.self.room)
     × Kept l.fn.self l.self

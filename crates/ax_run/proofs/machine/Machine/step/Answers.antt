@@ -1,5 +1,5 @@
-use Rattle.std.proofs.Common.{◌<◌, length, refl, arith}
-use Rattle.std.proofs.lemmas.Bool.{false≢true}
+use Rattle.std.proofs.Common.{◌<◌, length, arith}
+use Rattle.ax_run.proofs.Plans.{running_is, running_not}
 use Rattle.ax_run.proofs.Telling.{pass_tells, count_tells}
 use Rattle.ax_run.proofs.machine.Machine.step.Goals as goal
 
@@ -10,8 +10,8 @@ returns-then-is_running-clause-tells c =
     let ready = c.advance-shown.ensures.ready in
     let known = c.requires.processor in
     let cells : c.args.p < length r.retired = omega (arith, known, ready.few, ready.cells) in
-    count_tells start r c.args.p known told c.count.new.self c.advance-shown.new.self c.advance-shown.result cells c.advance-shown.ensures.advanced (c.if-is_running.ensures.0 refl) c.count.ensures
+    count_tells start r c.args.p known told c.count.new.self c.advance-shown.new.self c.advance-shown.result cells c.advance-shown.ensures.advanced (running_is _ c.if-is_running.ensures) c.count.ensures
 
 pub returns-else-is_running-clause-tells : goal.returns-else-is_running-clause-tells
 returns-else-is_running-clause-tells c =
-    λ start told. pass_tells start c.args.self.now c.args.p c.requires.processor told c.pass.new.self (λ h. false≢true (c.if-is_running.ensures.1 h)) c.pass.ensures
+    λ start told. pass_tells start c.args.self.now c.args.p c.requires.processor told c.pass.new.self (running_not _ c.if-is_running.ensures) c.pass.ensures

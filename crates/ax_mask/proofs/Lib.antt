@@ -1,0 +1,13 @@
+pub mod Fields
+pub mod Words
+pub mod Wrapped
+pub mod Straight
+pub mod Prepared
+pub mod Found
+pub mod Exchanging
+pub mod Comparing
+pub mod Computing
+pub mod Holding
+pub mod Updating
+pub mod Exchanges
+pub mod Rows
