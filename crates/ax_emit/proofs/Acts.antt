@@ -1,13 +1,16 @@
 -- The step of a line that has its event, and what comes behind it.
-use Rattle.std.proofs.Common.{◌≡◌, ℕ, ◌+◌, ◌<◌, ◌≤◌, ◌^◌, Bool, true, false, refl, sym, ap, ◌∙◌, subst, inl, inr, zero, suc, arith}
-use Rattle.std.specs.Prelude.{◌⊎◌, ◌||◌, ◌&&◌, Option, Some, None}
-use Rattle.std.proofs.lemmas.Bool.{false≢true}
+use Rattle.std.proofs.Common.{◌≡◌, ℕ, ◌+◌, ◌%◌, ◌<◌, ◌≤◌, ◌^◌, Bool, true, false, refl, sym, ap, ◌∙◌, subst, inl, inr, zero, suc, arith}
+use Rattle.std.specs.Prelude.{◌⊎◌, ◌||◌, ◌&&◌, if◌then◌else◌, nat_eq, Option, Some, None}
+use Rattle.std.proofs.lemmas.Bool.{eqb-true, false≢true}
 use Rattle.ax_words.specs.declared.source.SourceStatus.TheVariants.{Running as Runs}
-use Rattle.ax_store.specs.Storage.{seen}
+use Rattle.ax_store.specs.Bytes.{all_inside, number_at}
+use Rattle.ax_store.specs.Storage.{load, seen}
+use Rattle.ax_store.proofs.Calls.{inside_all}
+use Rattle.ax_store.proofs.Numbers.{number_same}
 use Rattle.ax_tags.specs.declared.tags.Role.TheVariants.{None as Outside}
 use Rattle.ax_tags.specs.declared.tags.Tag.{Tag}
 use Rattle.ax_tags.specs.declared.tags.Tag.TheVariants.{Act}
-use Rattle.ax_isa.specs.declared.cpu.Status.TheVariants.{Running, Trapped}
+use Rattle.ax_isa.specs.declared.cpu.Status.TheVariants.{Ended, Running, Trapped}
 use Rattle.ax_isa.specs.declared.effects.Back.{Back}
 use Rattle.ax_isa.specs.declared.effects.Back.TheVariants.{Place, Stack as Pops}
 use Rattle.ax_isa.specs.declared.effects.Effect.{Effect}
@@ -15,7 +18,7 @@ use Rattle.ax_isa.specs.declared.effects.Effect.TheVariants.{Set, Compare, Load,
 use Rattle.ax_isa.specs.Past.{Noted}
 use Rattle.ax_isa.specs.Processor.{Processor}
 use Rattle.ax_isa.specs.Run.{Setting, step}
-use Rattle.ax_isa.specs.Steps.{possible, effected, go_back, go_on, go_to, is_place, with_status}
+use Rattle.ax_isa.specs.Steps.{possible, effected, go_back, go_on, go_to, is_place, may_access, popped, with_status}
 use Rattle.ax_isa.specs.Tells.{An_act, A_miss, Done, Library, is_excused, is_freeing, holder_after, told, with_role}
 use Rattle.ax_follow.specs.Contract.{Did, Meaning, Reading, machine_status, MayWrite, Fair, IsOwn, Stage, Possible, OwnStep, Steps, Steppable}
 use Rattle.ax_follow.proofs.Follow.{leaves, fetch}
@@ -71,7 +74,7 @@ module _ {I P W : Type 0} (context : Context I P W) where
     pub output : d.outcome.output ≡ t.output
     pub status : d.processor.status ≡ machine_status (l.status t.processor)
     pub stays : (v.owner d.processor.place ≡ context.number) ⊎ (d.processor.place ≡ l.begins t.processor)
-    pub rest : (j : Stage) → j.acted ≡ true → j.idle ≤ 0 → Ahead x l v p j t.processor d.processor d.noted
+    pub rest : d.processor.status ≡ Running → (j : Stage) → j.acted ≡ true → j.idle ≤ 0 → Ahead x l v p j t.processor d.processor d.noted
 
   abbrev pub Happens : I → Private → Type 0
   Happens i y =
@@ -101,7 +104,7 @@ module _ {I P W : Type 0} (context : Context I P W) where
             few = omega arith;
             output = h.output;
             status = h.status;
-            goes = λ r. h.rest _ refl (omega arith);
+            goes = λ r. h.rest r _ refl (omega arith);
           }
 
       own : (j : Stage) (n : Noted) (w : W) → j.acted ≡ false → j.idle ≤ idle → Spells p n y.frame → Steppable l (reading_of v) x p j s y.cpu n w → Steps l (reading_of v) x (Ahead x l v p) p j s y.cpu n w (step x p y.cpu n)
@@ -141,7 +144,7 @@ module _ {I P W : Type 0} (context : Context I P W) where
             output = g.output;
             status = ap (λ q. q.status) g.processor ∙ g.status ∙ may.running ∙ sym (ap machine_status a.runs);
             stays = subst (λ (q : Processor). (v.owner q.place ≡ context.number) ⊎ (q.place ≡ l.begins a.next)) (sym g.processor) a.stays;
-            rest = λ k after none. subst (λ q. Ahead x l v p k a.next q d.noted) (sym g.processor) (a.rest k d.noted after none g.spells);
+            rest = λ r k after none. subst (λ q. Ahead x l v p k a.next q d.noted) (sym g.processor) (a.rest k d.noted after none g.spells);
           } in
           (z0.0, subst (λ o. Possible o (λ t. Leads n d t)) (sym a.does) good)
 
@@ -154,7 +157,12 @@ pub record Still (lib : Library) (buffered : Bool) (tag : Tag) (p : ℕ) (e : Ef
   pub processor : (told lib tag p e c n (effected buffered p e c n)).processor ≡ q
   pub output : (told lib tag p e c n (effected buffered p e c n)).outcome.output ≡ out
 
-module _ (lib : Library) (buffered : Bool) (tag : Tag) (p : ℕ) (c : Processor) (n : Noted) (small : c.place + 1 < 2 ^ 32) (q : Processor) (out : Option ℕ) (low : q.place < 2 ^ 32) where
+-- the root of p's frame: 8 bytes that p may read, and finds to be 0
+pub record IsRoot (p root : ℕ) (n : Noted) : Type 0 where
+  pub zero : load p root 8 n.storage ≡ 0
+  pub may : may_access root 8 n.storage ≡ true
+
+module _ (lib : Library) (buffered : Bool) (tag : Tag) (p root : ℕ) (c : Processor) (n : Noted) (is_root : IsRoot p root n) (small : c.place + 1 < 2 ^ 32) (q : Processor) (out : Option ℕ) (low : q.place < 2 ^ 32) where
   no_still : (e : Effect) → None ≡ Some (remains q out) → Still lib buffered tag p e c n q out
   no_still e h = absurd (let f : None ≡ Some (remains q out) = h in cc)
 
@@ -165,13 +173,32 @@ module _ (lib : Library) (buffered : Bool) (tag : Tag) (p : ℕ) (c : Processor)
   returns zero h = place_ok 0 (omega arith)
   returns (suc place) h = place_ok (suc place) (low_at (with_role Outside (go_back (suc place) c)) None h)
 
-  still_back : (back : Back) → returned back c ≡ Some (remains q out) → Still lib buffered tag p (Return back) c n q out
+  -- where the root is popped
+  pops : (pointer a : ℕ) → a ≡ root → remains (with_role Outside (go_back 0 (popped (Pops pointer a) c))) None ≡ remains q out → Still lib buffered tag p (Return (Pops pointer a)) c n q out
+  pops pointer a same h =
+      let reads : load p a 8 n.storage ≡ 0 = ap (λ b. load p b 8 n.storage) same ∙ is_root.zero in
+      record {
+        can = ap (λ z. is_place z && may_access a 8 n.storage) reads ∙ ap (λ t. t && may_access a 8 n.storage) (place_ok 0 (omega arith)) ∙ ap (λ b. may_access b 8 n.storage) same ∙ is_root.may;
+        storage = refl;
+        holder = refl;
+        processor = ap (λ z. with_role Outside (go_back z (popped (Pops pointer a) c))) reads ∙ ap (λ z. z.processor) h;
+        output = ap (λ z. z.output) h;
+      }
+
+  still_back : (back : Back) → returned root back c ≡ Some (remains q out) → Still lib buffered tag p (Return back) c n q out
   still_back (Place place) e =
       let h = some_is (remains (with_role Outside (go_back place c)) None) (remains q out) e in
       record { can = ap (λ t. t && true) (returns place h); storage = refl; holder = refl; processor = ap (λ z. z.processor) h; output = ap (λ z. z.output) h }
-  still_back (Pops pointer a) e = no_still (Return (Pops pointer a)) e
+  still_back (Pops pointer a) e = by (nat_eq a root) refl e
+    where
+      last : Remains
+      last = remains (with_role Outside (go_back 0 (popped (Pops pointer a) c))) None
 
-  pub still_step : (e : Effect) → stilled e c ≡ Some (remains q out) → Still lib buffered tag p e c n q out
+      by : (t : Bool) → nat_eq a root ≡ t → (if t then Some last else None) ≡ Some (remains q out) → Still lib buffered tag p (Return (Pops pointer a)) c n q out
+      by true same h = pops pointer a (eqb-true a root same) (some_is last (remains q out) h)
+      by false other h = no_still (Return (Pops pointer a)) h
+
+  pub still_step : (e : Effect) → stilled root e c ≡ Some (remains q out) → Still lib buffered tag p e c n q out
   still_step (Jump place) e = let h = some_is (remains (go_to place c) None) (remains q out) e in record { can = place_ok place (low_at (go_to place c) None h); storage = refl; holder = refl; processor = ap (λ z. z.processor) h; output = ap (λ z. z.output) h }
   still_step (Return back) e = still_back back e
   still_step (Output number) e = let h = some_is (remains (go_on c) (Some number)) (remains q out) e in record { can = place_ok (c.place + 1) small; storage = refl; holder = refl; processor = ap (λ z. z.processor) h; output = ap (λ z. z.output) h }
@@ -188,13 +215,13 @@ module _ (lib : Library) (buffered : Bool) (tag : Tag) (p : ℕ) (c : Processor)
   still_step (PairStore to a bytes number) e = no_still (PairStore to a bytes number) e
   still_step (CallTo place saved) e = no_still (CallTo place saved) e
 
--- registers are as they were, and it is in no call
+-- registers are as they were where it goes on, and it is in no call
 pub record StillCpu (c q : Processor) : Type 0 where
-  pub regs : q.regs ≡ c.regs
+  pub regs : q.status ≡ Running → q.regs ≡ c.regs
   pub role : c.role ≡ Outside → q.role ≡ Outside
 
 still_cpu_by : (e : Effect) (c q r : Processor) (out o : Option ℕ) → remains r o ≡ remains q out → r.regs ≡ c.regs → (c.role ≡ Outside → r.role ≡ Outside) → StillCpu c q
-still_cpu_by e c q r out o h regs role = record { regs = sym (ap (λ z. z.processor.regs) h) ∙ regs; role = λ z. sym (ap (λ z. z.processor.role) h) ∙ role z }
+still_cpu_by e c q r out o h regs role = record { regs = λ goes_on. sym (ap (λ z. z.processor.regs) h) ∙ regs; role = λ z. sym (ap (λ z. z.processor.role) h) ∙ role z }
 
 no_cpu : (c q : Processor) (out : Option ℕ) → None ≡ Some (remains q out) → StillCpu c q
 no_cpu c q out h = absurd (let f : None ≡ Some (remains q out) = h in cc)
@@ -203,39 +230,68 @@ back_regs : (place : ℕ) (c : Processor) → (with_role Outside (go_back place 
 back_regs zero c = refl
 back_regs (suc place) c = refl
 
-still_back_cpu : (back : Back) (c q : Processor) (out : Option ℕ) → returned back c ≡ Some (remains q out) → StillCpu c q
-still_back_cpu (Place place) c q out e = still_cpu_by (Return (Place place)) c q (with_role Outside (go_back place c)) out None (some_is (remains (with_role Outside (go_back place c)) None) (remains q out) e) (back_regs place c) (λ z. refl)
-still_back_cpu (Pops pointer a) c q out e = no_cpu c q out e
+-- one that has ended does not go on
+ended_cpu : (c q r : Processor) (out o : Option ℕ) → remains r o ≡ remains q out → r.status ≡ Ended → r.role ≡ Outside → StillCpu c q
+ended_cpu c q r out o h ended role = record { regs = λ goes_on. absurd (let z : Ended ≡ Running = sym ended ∙ ap (λ z. z.processor.status) h ∙ goes_on in cc); role = λ z. sym (ap (λ z. z.processor.role) h) ∙ role }
 
-pub still_cpu : (e : Effect) (c q : Processor) (out : Option ℕ) → stilled e c ≡ Some (remains q out) → StillCpu c q
-still_cpu (Jump place) c q out e = still_cpu_by (Jump place) c q (go_to place c) out None (some_is (remains (go_to place c) None) (remains q out) e) refl (λ z. z)
-still_cpu (Return back) c q out e = still_back_cpu back c q out e
-still_cpu (Output number) c q out e = still_cpu_by (Output number) c q (go_on c) out (Some number) (some_is (remains (go_on c) (Some number)) (remains q out) e) refl (λ z. z)
-still_cpu Trap c q out e = still_cpu_by Trap c q (with_status Trapped c) out None (some_is (remains (with_status Trapped c) None) (remains q out) e) refl (λ z. z)
-still_cpu Nop c q out e = still_cpu_by Nop c q (go_on c) out None (some_is (remains (go_on c) None) (remains q out) e) refl (λ z. z)
-still_cpu (Set to number) c q out e = no_cpu c q out e
-still_cpu (Compare a b) c q out e = no_cpu c q out e
-still_cpu (Load to a bytes rest ends) c q out e = no_cpu c q out e
-still_cpu (Store a bytes number) c q out e = no_cpu c q out e
-still_cpu (Locked to high a bytes rest change) c q out e = no_cpu c q out e
-still_cpu Fence c q out e = no_cpu c q out e
-still_cpu (Link to a bytes rest) c q out e = no_cpu c q out e
-still_cpu (LinkHalf to a) c q out e = no_cpu c q out e
-still_cpu (PairStore to a bytes number) c q out e = no_cpu c q out e
-still_cpu (CallTo place saved) c q out e = no_cpu c q out e
+still_back_cpu : (root : ℕ) (back : Back) (c q : Processor) (out : Option ℕ) → returned root back c ≡ Some (remains q out) → StillCpu c q
+still_back_cpu root (Place place) c q out e = still_cpu_by (Return (Place place)) c q (with_role Outside (go_back place c)) out None (some_is (remains (with_role Outside (go_back place c)) None) (remains q out) e) (back_regs place c) (λ z. refl)
+still_back_cpu root (Pops pointer a) c q out e = by (nat_eq a root) e
+  where
+    last : Processor
+    last = with_role Outside (go_back 0 (popped (Pops pointer a) c))
+
+    by : (t : Bool) → (if t then Some (remains last None) else None) ≡ Some (remains q out) → StillCpu c q
+    by true h = ended_cpu c q last out None (some_is (remains last None) (remains q out) h) refl refl
+    by false h = no_cpu c q out h
+
+pub still_cpu : (root : ℕ) (e : Effect) (c q : Processor) (out : Option ℕ) → stilled root e c ≡ Some (remains q out) → StillCpu c q
+still_cpu root (Jump place) c q out e = still_cpu_by (Jump place) c q (go_to place c) out None (some_is (remains (go_to place c) None) (remains q out) e) refl (λ z. z)
+still_cpu root (Return back) c q out e = still_back_cpu root back c q out e
+still_cpu root (Output number) c q out e = still_cpu_by (Output number) c q (go_on c) out (Some number) (some_is (remains (go_on c) (Some number)) (remains q out) e) refl (λ z. z)
+still_cpu root Trap c q out e = still_cpu_by Trap c q (with_status Trapped c) out None (some_is (remains (with_status Trapped c) None) (remains q out) e) refl (λ z. z)
+still_cpu root Nop c q out e = still_cpu_by Nop c q (go_on c) out None (some_is (remains (go_on c) None) (remains q out) e) refl (λ z. z)
+still_cpu root (Set to number) c q out e = no_cpu c q out e
+still_cpu root (Compare a b) c q out e = no_cpu c q out e
+still_cpu root (Load to a bytes rest ends) c q out e = no_cpu c q out e
+still_cpu root (Store a bytes number) c q out e = no_cpu c q out e
+still_cpu root (Locked to high a bytes rest change) c q out e = no_cpu c q out e
+still_cpu root Fence c q out e = no_cpu c q out e
+still_cpu root (Link to a bytes rest) c q out e = no_cpu c q out e
+still_cpu root (LinkHalf to a) c q out e = no_cpu c q out e
+still_cpu root (PairStore to a bytes number) c q out e = no_cpu c q out e
+still_cpu root (CallTo place saved) c q out e = no_cpu c q out e
 
 module _ {I P W : Type 0} (context : Context I P W) where
+  -- the 8 bytes from `root` on are 0, and lie in the frame
+  pub record Rooted (root : ℕ) (y : Private) : Type 0 where
+    pub zero : number_at y.frame root 8 ≡ 0
+    pub aligned : root % 8 ≡ 0
+    pub own : (b : ℕ) → root ≤ b → b < root + 8 → IsOwn context.processor b
+    pub inside : (w : W) → context.meaning.fits context.processor context.above w → (b : ℕ) → root ≤ b → b < root + 8 → context.world.inside w b ≡ true
+
+  -- so the processor finds them, behind its stores that wait
+  root_here : IsContext context → (root : ℕ) (j : Stage) (y : Private) (n : Noted) (w : W) → Rooted root y → Spells context.processor n y.frame → Steppable context.meaning (reading_of context.reading) context.setting context.processor j context.above y.cpu n w → IsRoot context.processor root n
+  root_here sound root j y n w rooted spells may =
+      let inside : (i : ℕ) → i < 8 → n.storage.inside (root + i) ≡ true = λ i less. ap (λ f. f (root + i)) (sound.laws.inside n w (sound.over.down n w may.sees)) ∙ rooted.inside w may.fits (root + i) (omega arith) (omega (arith, less)) in
+      record {
+        zero = number_same (seen context.processor n.storage) y.frame root 8 (λ i less. spells (root + i) (rooted.own (root + i) (omega arith) (omega (arith, less)))) ∙ rooted.zero;
+        may = ap (λ t. t && all_inside n.storage.inside root 8) (ap (λ z. nat_eq z 0) rooted.aligned) ∙ inside_all n.storage.inside root 8 inside;
+      }
+
   -- an event that leaves memory as it is
   pub record Stilly (i : I) (y : Private) : Type 0 where
     pub next : P
     pub output : Option ℕ
     pub does : (w : W) → context.meaning.chosen An_act context.processor context.above w ≡ Some (quietly context next output w)
     pub last : Processor
-    pub stills : stilled (context.setting.kind.effect_of i y.cpu) y.cpu ≡ Some (remains last output)
+    pub root : ℕ
+    pub rooted : Rooted root y
+    pub stills : stilled root (context.setting.kind.effect_of i y.cpu) y.cpu ≡ Some (remains last output)
     pub low : last.place < 2 ^ 32
     pub status : y.cpu.status ≡ Running → last.status ≡ machine_status (context.meaning.status next)
     pub place : last.place ≡ context.meaning.begins next
-    pub rest : Continues context.setting context.meaning context.reading context.processor true 0 next (record { cpu = last; frame = y.frame })
+    pub rest : last.status ≡ Running → Continues context.setting context.meaning context.reading context.processor true 0 next (record { cpu = last; frame = y.frame })
 
   pub still_event : IsContext context → (idle : ℕ) (i : I) (y : Private) → ActsAt context i y.cpu.place → context.meaning.number context.above ≡ context.number → y.cpu.role ≡ Outside → Stilly i y → GoesOn context false idle y
   still_event sound idle i y here is role a = event context idle i y here is happens
@@ -244,7 +300,7 @@ module _ {I P W : Type 0} (context : Context I P W) where
       happens j n w spells may =
           let lib = context.setting.library in
           let d = left context y i n in
-          let z = still_step lib context.setting.kind.buffered (context.setting.tags y.cpu.place) context.processor y.cpu n here.small a.last a.output a.low (context.setting.kind.effect_of i y.cpu) a.stills in
+          let z = still_step lib context.setting.kind.buffered (context.setting.tags y.cpu.place) context.processor a.root y.cpu n (root_here sound a.root j y n w a.rooted spells may) here.small a.last a.output a.low (context.setting.kind.effect_of i y.cpu) a.stills in
           let free : is_freeing (context.setting.tags y.cpu.place) ≡ false = ap is_freeing here.tag ∙ no_free context.quiet in
           let like : Alike n d.noted = record {
             inside = ap (λ st. st.inside) z.storage;
@@ -261,7 +317,7 @@ module _ {I P W : Type 0} (context : Context I P W) where
             output = z.output;
             status = ap (λ q. q.status) z.processor ∙ a.status may.running;
             stays = inr (ap (λ q. q.place) z.processor ∙ a.place);
-            rest = λ k after none. subst (λ q. Ahead context.setting context.meaning context.reading context.processor k a.next q d.noted) (sym z.processor)
-                (a.rest k d.noted after none (subst (λ st. (b : ℕ) → IsOwn context.processor b → seen context.processor st b ≡ y.frame b) (sym z.storage) spells));
+            rest = λ r k after none. subst (λ q. Ahead context.setting context.meaning context.reading context.processor k a.next q d.noted) (sym z.processor)
+                (a.rest (ap (λ q. q.status) (sym z.processor) ∙ r) k d.noted after none (subst (λ st. (b : ℕ) → IsOwn context.processor b → seen context.processor st b ≡ y.frame b) (sym z.storage) spells));
           } in
           (z.can, subst (λ o. Possible o (λ t. Leads context n d t)) (sym (a.does w)) good)

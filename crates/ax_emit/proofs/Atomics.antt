@@ -128,7 +128,7 @@ module _ {I R W : Type 0} (k : Kind I) (m : Program R W) (table : Table I) (base
         rel_so r false is count none small =
             let keep : put_all m.key z.results r.results s.regs ≡ s.regs = ap (λ ns. put_all m.key z.results ns s.regs) (none refl) ∙ put_none m.key z.results s.regs in
             let keep2 : put_regs (firsts qs) r.results t.regs ≡ t.regs = ap (λ ns. put_regs (firsts qs) ns t.regs) (none refl) ∙ regs_none (firsts qs) t.regs in
-            Not_yet c at runs (record { regs = λ q lt. h.regs q lt ∙ ap (λ g. g q) (sym keep); frame = h.frame; fixed = h.fixed; role = h.role; lives = h.lives }) (ap (is_private_at m p i) keep ∙ shares) refl refl (ap (λ g. g a0) keep2 ∙ e2 ∙ ap (λ g. g (m.key z.address)) (sym keep)) (ap (read_regs (firsts ps)) keep2 ∙ e3 ∙ ap (read_regs (seconds ps)) (sym keep))
+            Not_yet c at runs (record { regs = λ q lt. h.regs q lt ∙ ap (λ g. g q) (sym keep); frame = h.frame; root = h.root; fixed = h.fixed; role = h.role; lives = h.lives }) (ap (is_private_at m p i) keep ∙ shares) refl refl (ap (λ g. g a0) keep2 ∙ e2 ∙ ap (λ g. g (m.key z.address)) (sym keep)) (ap (read_regs (firsts ps)) keep2 ∙ e3 ∙ ap (read_regs (seconds ps)) (sym keep))
             (λ q fq. ap (λ g. g q) keep2 ∙ e4 q fq)
 
         go : (H : Option (Result W)) → doing.happens g p (t.regs a0) (read_regs (firsts ps) t.regs) t.seen w ≡ H → doing.fits (t.regs a0) (read_regs (firsts ps) t.regs) w → Mirrored quiet (Rel p f) g (deed_of (firsts qs) t.regs H) (did_atomic m quiet g z.results s H)
@@ -185,14 +185,14 @@ module _ {I R W : Type 0} (k : Kind I) (m : Program R W) (table : Table I) (base
 
     puts_is : (p : ℕ) (s : MidProcessor) (t : Inner) (y : Private) → Rel p y.frame true s t → Keeps keeps y.cpu.regs t.regs → y.cpu.role ≡ Outside → PutBack around p s y
     puts_is p s t y (Already c s0 ns h at runs regs frame over e3 small len e6) kept role =
-        let here : Spelled m p y.cpu y.frame s0 = record { regs = h.regs; frame = h.frame; fixed = λ q fq. kept q (homes.keeps_fixed q fq) ∙ e6 q fq; role = role; lives = h.lives } in
+        let here : Spelled m p y.cpu y.frame s0 = record { regs = h.regs; frame = h.frame; root = h.root; fixed = λ q fq. kept q (homes.keeps_fixed q fq) ∙ e6 q fq; role = role; lives = h.lives } in
         let reads : read_regs (firsts qs) y.cpu.regs ≡ ns = read_kept keeps y.cpu.regs t.regs kept (firsts qs) homes.keeps_results ∙ e3 in
         let g = gave_all k m table base p qs ns s0 y homes.usable_results homes.few_results small (len ∙ firsts_length qs) reads here in
         record {
           private = g.private;
           goes = g.goes;
           matches = λ n spells. (let b = spelled_same m base.sound p g.private.cpu g.private.cpu g.private.frame (seen p n.storage) (record s0 { regs = put_regs (seconds qs) ns s0.regs }) g.spelled spells (λ q f. refl) refl in
-              record { regs = λ q lt. b.regs q lt ∙ ap (λ f. f q) (sym regs); frame = λ a lt. b.frame a lt ∙ ap (λ f. f a) (sym frame); fixed = b.fixed; role = b.role; lives = b.lives });
+              record { regs = λ q lt. b.regs q lt ∙ ap (λ f. f q) (sym regs); frame = λ a lt. b.frame a lt ∙ ap (λ f. f a) (sym frame); root = b.root; fixed = b.fixed; role = b.role; lives = b.lives });
         }
 
     wraps : (p : ℕ) → Wraps around p
@@ -204,7 +204,7 @@ module _ {I R W : Type 0} (k : Kind I) (m : Program R W) (table : Table I) (base
           fits = fits_is p;
           chosen = chosen_is p;
           ends = ends_is p;
-          roomy = λ f a s t w rel fit b r. (let q = room_is m base.sound p b r in fit.room b (lives_is p f a s t rel) q.0 q.1);
+          roomy = λ f a s t w rel fit b r. (let q = room_is m base.sound p b r in (let hi = q.1 in fit.room b (lives_is p f a s t rel) q.0 (omega (arith, hi))));
           role = λ s c n h. h.role;
           brings = brings_is p;
           puts = λ s t y r kept role at. puts_is p s t y r kept role;

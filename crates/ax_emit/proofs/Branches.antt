@@ -32,7 +32,7 @@ use Rattle.ax_emit.specs.Lines.{LineCode, StandsAt, branch_code, place_behind}
 use Rattle.ax_emit.specs.Performs.{Splits, at_frame, stilled, turned}
 use Rattle.ax_emit.specs.Table.{Based, Table}
 use Rattle.ax_emit.proofs.Acts.{still_event}
-use Rattle.ax_emit.proofs.Lines.{here, sound, chosen_here, matching, stepped_same, stepped_place}
+use Rattle.ax_emit.proofs.Lines.{here, rooted, sound, chosen_here, matching, stepped_same, stepped_place}
 use Rattle.ax_emit.proofs.Slots.{spelled_as, spelled_same}
 
 branch_does : {R W : Type 0} (m : Program R W) (quiet : Bool) (test : R) (a b p : ℕ) (s : MidProcessor) (w : W)
@@ -129,11 +129,13 @@ module _ {I R W : Type 0} (k : Kind I) (m : Program R W) (table : Table I) (base
             does = λ w. chosen_here k m table base code tags lib v places own line h.at p s is_own w _
                 (ap (λ i. chosen_by m An_act quiet p i s w) is_line ∙ branch_does m quiet test a b p s w ∙ ap (λ z. Some (record { processor = stepped m quiet (record s { place = behind (if z then b else a) }); world = w; output = None; gives = hushed quiet An_act; excused = false })) zero);
             last = last;
-            stills = ap (λ e. stilled e y.cpu) (jump_is (goal t) target y.cpu at (subst (λ q. q < 2 ^ 32) at (omega (arith, small))) low);
+            root = m.top p;
+            rooted = rooted k m table base code tags lib v places own line p s lives y h2.root;
+            stills = ap (λ e. stilled (m.top p) e y.cpu) (jump_is (goal t) target y.cpu at (subst (λ q. q < 2 ^ 32) at (omega (arith, small))) low);
             low = low;
             status = λ r. r ∙ sym (ap machine_status (same.status ∙ runs));
             place = sym ends;
-            rest = finished y0 (fine m places) v p 0 next (record { cpu = last; frame = y.frame }) (sym ends) (λ n2 spells. matching k m table base code tags lib v places own line p next last y.frame n2 spelt spells);
+            rest = λ goes_on. finished y0 (fine m places) v p 0 next (record { cpu = last; frame = y.frame }) (sym ends) (λ n2 spells. matching k m table base code tags lib v places own line p next last y.frame n2 spelt spells);
           })
         where
           ActsHere : ℕ → MidProcessor → Private → Bool → Type 0

@@ -16,7 +16,7 @@ use Rattle.ax_mid.specs.Spots.{Own, element_at, frame_bytes, is_own, spot_of}
 use Rattle.ax_expand.specs.Private.{may_use}
 use Rattle.ax_fine.specs.Fine.{Program, Sound, Spelled, private_at, room_of, slot}
 use Rattle.ax_emit.specs.Touches.{IsSize}
-use Rattle.ax_emit.proofs.Slots.{area_below, read_apart, room_all}
+use Rattle.ax_emit.proofs.Slots.{area_below, read_apart, room_all, root_stays}
 
 -- equal bytes spell equal numbers, wherever they stand
 number_moved : (f g : ℕ → ℕ) (a b n : ℕ) → ((i : ℕ) → i < n → f (a + i) ≡ g (b + i)) → number_at f a n ≡ number_at g b n
@@ -140,6 +140,7 @@ module _ {R W : Type 0} (m : Program R W) (sound : Sound m) (p : ℕ) where
       record {
         regs = λ r lt. read_apart f a (slot m.top p r) n 8 (cut n v) (inr (let below = area_below m sound p r lt in let is = z.is in let inside = z.inside in omega (arith, below, is, inside))) ∙ h.regs r lt;
         frame = λ b lt. ap (λ q. written f q n (cut n v) (m.base p + b)) z.is ∙ written_moved f s.frame (m.base p) z.offset n v b (h.frame b lt);
+        root = root_stays m sound p f a n (cut n v) (let is = z.is in let inside = z.inside in let slots = sound.slots in let deep = sound.deep p in omega (arith, is, inside, slots, deep)) ∙ h.root;
         fixed = λ q k. keeps q k ∙ h.fixed q k;
         role = role ∙ h.role;
         lives = h.lives;

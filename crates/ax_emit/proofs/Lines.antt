@@ -3,9 +3,11 @@ use Rattle.std.proofs.Common.{◌≡◌, ℕ, suc, ◌+◌, ◌^◌, ◌<◌, �
 use Rattle.std.specs.Prelude.{◌⊎◌, if◌then◌else◌, slice_get}
 use Rattle.std.proofs.lemmas.Bool.{false≢true}
 use Rattle.ax_words.specs.declared.source.SourceStatus.TheVariants.{Running as Runs}
+use Rattle.ax_store.specs.Bytes.{number_at}
 use Rattle.ax_store.specs.Storage.{seen}
 use Rattle.ax_tags.specs.declared.tags.Tag.{Tag}
 use Rattle.ax_tags.specs.declared.tags.Tag.TheVariants.{Act}
+use Rattle.ax_isa.specs.declared.cpu.Status.TheVariants.{Running}
 use Rattle.ax_isa.specs.Past.{Noted}
 use Rattle.ax_isa.specs.Processor.{Processor}
 use Rattle.ax_isa.specs.Run.{Setting}
@@ -19,7 +21,7 @@ use Rattle.ax_mid.specs.Processor.{MidProcessor}
 use Rattle.ax_expand.specs.Continues.{Context, IsContext}
 use Rattle.ax_expand.specs.Expands.{reading_of, Begun}
 use Rattle.ax_expand.specs.Operation.{hushed}
-use Rattle.ax_expand.specs.Private.{Spells}
+use Rattle.ax_expand.specs.Private.{Private, Spells}
 use Rattle.ax_expand.specs.Standing.{Here, HasAt, silently, setting_by}
 use Rattle.ax_expand.specs.World.{Words}
 use Rattle.ax_expand.specs.Wraps.{viewed}
@@ -29,8 +31,8 @@ use Rattle.ax_emit.specs.Lines.{Laid, LineCode, StandsAt, ended_code, performed_
 use Rattle.ax_emit.specs.Performs.{Acted, Ends, May, Performs, at_frame}
 use Rattle.ax_emit.specs.Table.{Based, Table}
 use Rattle.ax_emit.specs.Touches.{is_private, is_private_at}
-use Rattle.ax_emit.proofs.Acts.{ActsAt, Privately, private_event, still_cpu, still_event}
-use Rattle.ax_emit.proofs.Slots.{room_is, room_own, spelled_as, spelled_same}
+use Rattle.ax_emit.proofs.Acts.{ActsAt, Privately, Rooted, private_event, still_cpu, still_event}
+use Rattle.ax_emit.proofs.Slots.{low_top, room_is, room_own, spelled_as, spelled_same}
 
 -- a line that only its processor sees does what its private step does
 plain_acts : {R W : Type 0} (m : Program R W) (i : MidInst R) (quiet : Bool) (p : ℕ) (s : MidProcessor) (w : W) → is_private i ≡ true → chosen_by m An_act quiet p i s w ≡ did_private m quiet w (private_at m p i s)
@@ -94,7 +96,18 @@ module _ {I R W : Type 0} (k : Kind I) (m : Program R W) (table : Table I) (base
         over = record { down = λ n w h. h; up = λ n w h. h };
         words = words;
         mine = room_own m base.sound p;
-        roomy = λ w fit b r. (let z = room_is m base.sound p b r in fit.room b lives z.0 z.1);
+        roomy = λ w fit b r. (let z = room_is m base.sound p b r in let hi = z.1 in fit.room b lives z.0 (omega (arith, hi)));
+      }
+
+  -- the root of its frame
+  pub rooted : (p : ℕ) (s : MidProcessor) → m.lives p ≡ true → (y : Private) → number_at y.frame (m.top p) 8 ≡ 0 → Rooted (here p s) (m.top p) y
+  rooted p s lives y zero =
+      let low = low_top m base.sound p in
+      record {
+        zero = zero;
+        aligned = base.sound.aligned p;
+        own = λ b lo hi. base.sound.own p b lives (omega (arith, lo, low)) hi;
+        inside = λ w fit b lo hi. fit.room b lives (omega (arith, lo, low)) hi;
       }
 
   module _ (at : slice_get m.code.lines own ≡ Some line) (p : ℕ) (s : MidProcessor) (is_own : s.place ≡ own) where
@@ -233,20 +246,22 @@ module _ {I R W : Type 0} (k : Kind I) (m : Program R W) (table : Table I) (base
             let there = goes_place k (room_of m p) is (viewed p c n) z.private z.goes in
             let at_mid : z.private.cpu.place ≡ places own + length is = there.0 ∙ ap (λ q. q + length is) at_own in
             let next : MidProcessor = z.next in
-            let left = still_cpu (k.effect_of (acts places (places own)) z.private.cpu) z.private.cpu z.last z.output z.stills in
-            let spelt : Spelled m p z.last z.private.frame z.next = spelled_as m base.sound p z.last z.private.frame s z.next z.regs z.bytes
-            (spelled_same m base.sound p c z.last (seen p n.storage) z.private.frame s matches (λ b own_b. ap (λ f. f b) z.frame) (λ q f. ap (λ g. g q) left.regs ∙ z.fixed q f) (left.role (there.1 ∙ matches.role) ∙ sym matches.role)) in
+            let left = still_cpu (m.top p) (k.effect_of (acts places (places own)) z.private.cpu) z.private.cpu z.last z.output z.stills in
+            let spelt : z.last.status ≡ Running → Spelled m p z.last z.private.frame z.next = λ goes_on. spelled_as m base.sound p z.last z.private.frame s z.next z.regs z.bytes
+            (spelled_same m base.sound p c z.last (seen p n.storage) z.private.frame s matches (λ b own_b. ap (λ f. f b) z.frame) (λ q f. ap (λ g. g q) (left.regs goes_on) ∙ z.fixed q f) (left.role (there.1 ∙ matches.role) ∙ sym matches.role)) in
             straight (at_line p s) ok false is 0 (viewed p c n) z.private (has_first y0 (reading_of v) hush_line own c.place (silently is) _ (subst (λ q. HasAt y0 (reading_of v) hush_line own q (ended_code is acts places (places own))) (sym at_own) h.has)) matches.role z.goes (omega (arith, low_is, enough)) (λ q lo hi e. absurd (false≢true e)) (inl (ap v.owner at_mid ∙ rest.0.owner))
             (still_event (at_line p s) ok (0 + length is) (acts places (places own)) z.private (subst (λ q. Here y0 (reading_of v) hush_line own q (acts places (places own), Act)) (sym at_mid) rest.0) is_own (there.1 ∙ matches.role) (record {
               next = next;
               output = z.output;
               does = λ w. chosen_here k m table base code tags lib v places own line h.at p s is_own w _ (z.does w);
               last = z.last;
+              root = m.top p;
+              rooted = rooted k m table base code tags lib v places own line p s matches.lives z.private (ap (λ f. number_at f (m.top p) 8) z.frame ∙ matches.root);
               stills = z.stills;
               low = z.low;
               status = z.status runs;
               place = z.place;
-              rest = finished y0 (fine m places) v p 0 next (record { cpu = z.last; frame = z.private.frame }) z.place (λ n2 spells. matching k m table base code tags lib v places own line p next z.last z.private.frame n2 spelt spells);
+              rest = λ goes_on. finished y0 (fine m places) v p 0 next (record { cpu = z.last; frame = z.private.frame }) z.place (λ n2 spells. matching k m table base code tags lib v places own line p next z.last z.private.frame n2 (spelt goes_on) spells);
             })) stage_start n refl (omega arith) (λ b own_b. refl) hs
 
     -- A LINE THAT LEAVES ALL MEMORY AS IT IS

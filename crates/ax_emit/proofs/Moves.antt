@@ -107,7 +107,7 @@ module _ {I R W : Type 0} (k : Kind I) (m : Program R W) (table : Table I) (base
 
     -- SLOTS GET THE NUMBERS OF REGISTERS
     pub gave_all : (zs : List (ℕ × ℕ)) (ns : List ℕ) (s : MidProcessor) (y : Private) → AllOf (λ t. table.usable t ≡ true) (firsts zs) → AllOf (λ r. r < m.count) (seconds zs) → AllOf (λ n. n < 2 ^ 64) ns → length ns ≡ length zs → read_regs (firsts zs) y.cpu.regs ≡ ns → Spelled m p y.cpu y.frame s → GaveAll zs ns s y
-    gave_all [] [] s y us b small len e h = record { private = y; goes = refl; spelled = record { regs = h.regs; frame = h.frame; fixed = h.fixed; role = h.role; lives = h.lives } }
+    gave_all [] [] s y us b small len e h = record { private = y; goes = refl; spelled = record { regs = h.regs; frame = h.frame; root = h.root; fixed = h.fixed; role = h.role; lives = h.lives } }
     gave_all [] (n ∷ ns) s y us b small len e h = absurd (omega (arith, len))
     gave_all (z ∷ zs) [] s y us b small len e h = absurd (omega (arith, len))
     gave_all (z ∷ zs) (n ∷ ns) s y us b small len e h =

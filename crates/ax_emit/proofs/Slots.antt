@@ -46,7 +46,14 @@ module _ {R W : Type 0} (m : Program R W) (sound : Sound m) (p : ℕ) where
   room_lives b h = (and_parts (m.lives p) (nat_le (m.low p) b && nat_lt b (m.top p)) h).0
 
   pub room_own : (b : ℕ) → room_of m p b ≡ true → IsOwn p b
-  room_own b h = let z = room_is b h in sound.own p b (room_lives b h) z.0 z.1
+  room_own b h = let z = room_is b h in let hi = z.1 in sound.own p b (room_lives b h) z.0 (omega (arith, hi))
+
+  -- the root lies above
+  pub low_top : m.low p ≤ m.top p
+  low_top = let lo = sound.area p in let d = sound.deep p in omega (arith, lo, d)
+
+  pub slot_below : (r : ℕ) → r < m.count → at r + 8 ≤ m.top p
+  slot_below r h = let e = slot_is r h in omega (arith, e)
 
   pub room_all : (a n : ℕ) → m.lives p ≡ true → m.low p ≤ a → a + n ≤ m.top p → all_inside (room_of m p) a n ≡ true
   room_all a zero lives lo hi = refl
@@ -65,6 +72,10 @@ module _ {R W : Type 0} (m : Program R W) (sound : Sound m) (p : ℕ) where
   slots_apart : (i k : ℕ) → i < m.count → k < m.count → (k ≡ i → ⊥) → (at k + 8 ≤ at i) ⊎ (at i + 8 ≤ at k)
   slots_apart i k hi hk ne = ⊎_elim (λ lt. inr (let a = slot_is i hi in let b = slot_is k hk in omega (arith, lt, a, b))) (λ ge. inl (let a = slot_is i hi in let b = slot_is k hk in omega (arith, ge, ne, a, b))) (cases_lt k i)
 
+  -- a write below the root leaves it
+  pub root_stays : (f : ℕ → ℕ) (a n v : ℕ) → a + n ≤ m.top p → number_at (written f a n v) (m.top p) 8 ≡ number_at f (m.top p) 8
+  root_stays f a n v below = read_apart f a (m.top p) n 8 v (inr below)
+
   -- A SLOT GETS A NUMBER: a register does
   pub spelled_put : (c c' : Processor) (f : ℕ → ℕ) (s : MidProcessor) (place r v : ℕ) → r < m.count → v < 2 ^ 64 → Spelled m p c f s → ((q : ℕ) → m.fixed q ≡ true → c'.regs q ≡ c.regs q) → c'.role ≡ c.role
       → Spelled m p c' (written f (at r) 8 (cut 8 v)) (record s { place = place; regs = at_place s.regs r v })
@@ -73,6 +84,7 @@ module _ {R W : Type 0} (m : Program R W) (sound : Sound m) (p : ℕ) where
         regs = λ q lt. ⊎_elim (λ same. subst (λ z. number_at (written f (at r) 8 (cut 8 v)) (at z) 8 ≡ at_place s.regs r v z) (sym same) (read_same f (at r) v small ∙ sym (at_same s.regs r v)))
             (λ ne. read_apart f (at r) (at q) 8 8 (cut 8 v) (slots_apart r q few lt ne) ∙ h.regs q lt ∙ sym (at_other s.regs r v q ne)) (cases_eq q r);
         frame = λ b lt. written_below f (at r) 8 (cut 8 v) (m.base p + b) (let e = area_below r few in omega (arith, e, lt)) ∙ h.frame b lt;
+        root = root_stays f (at r) 8 (cut 8 v) (slot_below r few) ∙ h.root;
         fixed = λ q k. keeps q k ∙ h.fixed q k;
         role = role ∙ h.role;
         lives = h.lives;
@@ -84,6 +96,7 @@ module _ {R W : Type 0} (m : Program R W) (sound : Sound m) (p : ℕ) where
       record {
         regs = λ q lt. number_same g f (at q) 8 (λ i less. same (at q + i) (let e = slot_is q lt in let lo = slot_low q lt in sound.own p (at q + i) h.lives (omega (arith, lo)) (omega (arith, e, less)))) ∙ h.regs q lt;
         frame = λ b lt. same (m.base p + b) (let lo = sound.area p in let hi = sound.slots in let d = sound.deep p in sound.own p (m.base p + b) h.lives (omega (arith, lo)) (omega (arith, hi, d, lt))) ∙ h.frame b lt;
+        root = number_same g f (m.top p) 8 (λ i less. same (m.top p + i) (let lo = low_top in sound.own p (m.top p + i) h.lives (omega (arith, lo)) (omega (arith, less)))) ∙ h.root;
         fixed = λ q k. keeps q k ∙ h.fixed q k;
         role = role ∙ h.role;
         lives = h.lives;
@@ -91,4 +104,4 @@ module _ {R W : Type 0} (m : Program R W) (sound : Sound m) (p : ℕ) where
 
   -- a processor with the same registers and the same frame
   pub spelled_as : (c : Processor) (f : ℕ → ℕ) (s t : MidProcessor) → t.regs ≡ s.regs → t.frame ≡ s.frame → Spelled m p c f s → Spelled m p c f t
-  spelled_as c f s t regs frame h = record { regs = λ q lt. h.regs q lt ∙ sym (ap (λ g. g q) regs); frame = λ b lt. h.frame b lt ∙ sym (ap (λ g. g b) frame); fixed = h.fixed; role = h.role; lives = h.lives }
+  spelled_as c f s t regs frame h = record { regs = λ q lt. h.regs q lt ∙ sym (ap (λ g. g q) regs); frame = λ b lt. h.frame b lt ∙ sym (ap (λ g. g b) frame); root = h.root; fixed = h.fixed; role = h.role; lives = h.lives }

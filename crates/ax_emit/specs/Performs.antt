@@ -8,7 +8,7 @@ use Rattle.ax_isa.specs.declared.effects.Back.TheVariants.{Place, Stack as Pops}
 use Rattle.ax_isa.specs.declared.effects.Effect.{Effect}
 use Rattle.ax_isa.specs.declared.effects.Effect.TheVariants.{Jump, Return, Output, Trap, Nop}
 use Rattle.ax_isa.specs.Processor.{Processor}
-use Rattle.ax_isa.specs.Steps.{Kind, go_back, go_on, go_to, with_status}
+use Rattle.ax_isa.specs.Steps.{Kind, go_back, go_on, go_to, popped, with_status}
 use Rattle.ax_isa.specs.Tells.{An_act, with_role}
 use Rattle.ax_follow.specs.Contract.{machine_status}
 use Rattle.ax_mid.specs.declared.code.Line.{Line}
@@ -26,17 +26,18 @@ pub record Remains : Type 0 where
 abbrev pub remains : Processor → Option ℕ → Remains
 remains c output = record { processor = c; output = output }
 
-abbrev pub returned : Back → Processor → Option Remains
-returned (Place place) c = Some (remains (with_role Outside (go_back place c)) None)
-returned (Pops pointer a) c = None
+-- a return that pops the root of the frame, which is 0, goes to no place
+abbrev pub returned : ℕ → Back → Processor → Option Remains
+returned root (Place place) c = Some (remains (with_role Outside (go_back place c)) None)
+returned root (Pops pointer a) c = if nat_eq a root then Some (remains (with_role Outside (go_back 0 (popped (Pops pointer a) c))) None) else None
 
-abbrev pub stilled : Effect → Processor → Option Remains
-stilled (Jump place) c = Some (remains (go_to place c) None)
-stilled (Return back) c = returned back c
-stilled (Output number) c = Some (remains (go_on c) (Some number))
-stilled Trap c = Some (remains (with_status Trapped c) None)
-stilled Nop c = Some (remains (go_on c) None)
-stilled _ c = None
+abbrev pub stilled : ℕ → Effect → Processor → Option Remains
+stilled root (Jump place) c = Some (remains (go_to place c) None)
+stilled root (Return back) c = returned root back c
+stilled root (Output number) c = Some (remains (go_on c) (Some number))
+stilled root Trap c = Some (remains (with_status Trapped c) None)
+stilled root Nop c = Some (remains (go_on c) None)
+stilled root _ c = None
 
 -- where a branch goes
 abbrev pub turned : Effect → Processor → Option ℕ
@@ -94,7 +95,7 @@ module _ {I R W : Type 0} (k : Kind I) (m : Program R W) (p : ℕ) where
     pub regs : next.regs ≡ s.regs
     pub bytes : next.frame ≡ s.frame
     pub last : Processor
-    pub stills : stilled (k.effect_of acts private.cpu) private.cpu ≡ Some (remains last output)
+    pub stills : stilled (m.top p) (k.effect_of acts private.cpu) private.cpu ≡ Some (remains last output)
     pub place : last.place ≡ places next.place
     pub low : last.place < 2 ^ 32
     pub status : s.status ≡ Runs → private.cpu.status ≡ Running → last.status ≡ machine_status next.status

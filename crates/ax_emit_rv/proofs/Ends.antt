@@ -98,7 +98,7 @@ module _ {R W : Type 0} (m : Program R W) (h : RvBased m) (law : Laws m) (most :
         regs = same.regs;
         bytes = same.frame;
         last = go_to target c;
-        stills = ap (λ e. stilled e c) (jump_goes (places own) target c there low low_target);
+        stills = ap (λ e. stilled (m.top p) e c) (jump_goes (places own) target c there low low_target);
         place = sym (ap places (stepped_place m quiet next) ∙ laid.settles (behind_label m.key m.code.lines n 0));
         low = low_target;
         status = λ runs r. r ∙ sym (ap machine_status (same.status ∙ runs));

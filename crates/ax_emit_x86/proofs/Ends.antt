@@ -1,16 +1,18 @@
 -- x86-64's code of jumps, branches, outputs and ends.
-use Rattle.std.proofs.Common.{◌≡◌, ℕ, ◌+◌, ◌-◌, ◌%◌, ◌<◌, ◌≤◌, ◌^◌, Bool, true, false, [], ◌∷◌, ◌++◌, length, Some, None, refl, sym, ap, ◌∙◌, subst, arith}
+use Rattle.std.proofs.Common.{◌≡◌, ℕ, suc, ◌+◌, ◌-◌, ◌%◌, ◌<◌, ◌≤◌, ◌^◌, Bool, true, false, [], ◌∷◌, ◌++◌, length, Some, None, refl, sym, ap, ◌∙◌, subst, arith}
 use Rattle.std.specs.Prelude.{if◌then◌else◌, not, nat_eq, nat_le, pos, negsuc}
 use Rattle.std.proofs.lemmas.Bool.Decides.{nat_tests}
 use Rattle.ax_words.specs.declared.mark.Op.{Op}
 use Rattle.ax_words.specs.declared.order.Order.{Order}
 use Rattle.ax_words.specs.declared.width.Width.{Width}
-use Rattle.ax_words.specs.declared.source.SourceStatus.TheVariants.{Trapped as Traps}
+use Rattle.ax_words.specs.declared.source.SourceStatus.TheVariants.{Ended, Trapped as Traps}
+use Rattle.ax_tags.specs.declared.tags.Role.TheVariants.{None as Outside}
 use Rattle.ax_isa.specs.declared.cpu.Status.TheVariants.{Trapped}
+use Rattle.ax_isa.specs.declared.effects.Back.TheVariants.{Stack as Pops}
 use Rattle.ax_isa.specs.declared.effects.Effect.TheVariants as effect
 use Rattle.ax_isa.specs.Processor.{Processor}
-use Rattle.ax_isa.specs.Steps.{go_on, go_to, with_status}
-use Rattle.ax_isa.specs.Tells.{An_act}
+use Rattle.ax_isa.specs.Steps.{go_back, go_on, go_to, popped, with_status}
+use Rattle.ax_isa.specs.Tells.{An_act, with_role}
 use Rattle.ax_follow.specs.Contract.{machine_status}
 use Rattle.ax_mid.specs.declared.code.Line.{Line}
 use Rattle.ax_mid.specs.declared.instruction.MidInst.{MidInst}
@@ -18,7 +20,7 @@ use Rattle.ax_mid.specs.declared.instruction.MidInst.TheVariants as inst
 use Rattle.ax_mid.specs.Machine.{behind_label, private_step}
 use Rattle.ax_mid.specs.Processor.{MidProcessor, goes_on, unseen}
 use Rattle.ax_x86.specs.declared.instructions.X86Instr.{X86Instr}
-use Rattle.ax_x86.specs.declared.instructions.X86Instr.TheVariants.{Nop, Syscall, Ud2}
+use Rattle.ax_x86.specs.declared.instructions.X86Instr.TheVariants.{Nop, Ret, Syscall, Ud2}
 use Rattle.ax_isa.specs.Numbers.{displaced}
 use Rattle.ax_x86.specs.Instructions.{effect_of, x86_kind}
 use Rattle.ax_expand.specs.Operation.{hushed}
@@ -30,7 +32,7 @@ use Rattle.ax_emit.specs.Performs.{Ends as EndsLine, Splits, at_frame, remains, 
 use Rattle.ax_emit.proofs.Lines.{stepped_place, stepped_same}
 use Rattle.ax_emit.proofs.Moves.{got_all, got_fixed}
 use Rattle.ax_emit_x86.specs.Code.{Expansion, distance, get_one, inst_code, piece_of, jump_to, test_code, turn}
-use Rattle.ax_emit_x86.specs.Laws.{Low, Returned, X86Based}
+use Rattle.ax_emit_x86.specs.Laws.{Low, X86Based}
 use Rattle.ax_emit_x86.specs.Slots.{x86_table}
 use Rattle.ax_emit_x86.proofs.Computing.{Laws, based, compare, fixed_stack, gets_short, resized, set_to}
 
@@ -56,6 +58,11 @@ nop_does m quiet p s w = refl
 trap_does : {R W : Type 0} (m : Program R W) (quiet : Bool) (p : ℕ) (s : MidProcessor) (w : W) → chosen_by m An_act quiet p inst.Trap s w ≡ Some (record { processor = record s { status = Traps }; world = w; output = None; gives = hushed quiet An_act; excused = false })
 unfolding chosen_by
 trap_does m quiet p s w = refl
+
+ret_does : {R W : Type 0} (m : Program R W) (quiet : Bool) (p : ℕ) (s : MidProcessor) (w : W)
+    → chosen_by m An_act quiet p inst.Ret s w ≡ Some (record { processor = record s { place = suc (length m.code.lines); status = Ended; seen = None }; world = w; output = None; gives = hushed quiet An_act; excused = false })
+unfolding chosen_by
+ret_does m quiet p s w = refl
 
 out_does : {R W : Type 0} (m : Program R W) (quiet : Bool) (from : R) (p : ℕ) (s : MidProcessor) (w : W) → chosen_by m An_act quiet p (inst.Out from) s w ≡ Some (record { processor = settled m (unseen (goes_on s)); world = w; output = Some (s.regs (m.key from)); gives = hushed quiet An_act; excused = false })
 unfolding chosen_by
@@ -94,7 +101,7 @@ module _ {R W : Type 0} (m : Program R W) (h : X86Based m) (law : Laws m) (most 
         regs = same.regs;
         bytes = same.frame;
         last = go_to target c;
-        stills = ap (λ e. stilled e c) (jump_goes (places own) target c there low low_target);
+        stills = ap (λ e. stilled (m.top p) e c) (jump_goes (places own) target c there low low_target);
         place = sym (ap places (stepped_place m quiet next) ∙ laid.settles (behind_label m.key m.code.lines n 0));
         low = low_target;
         status = λ runs r. r ∙ sym (ap machine_status (same.status ∙ runs));
@@ -143,10 +150,30 @@ module _ {R W : Type 0} (m : Program R W) (h : X86Based m) (law : Laws m) (most 
         status = λ runs r. refl;
       })
 
-  -- the contract of a `ret` is a premise
-  pub ret_line : line.inst ≡ inst.Ret → Returned m most → Follows inst.Ret
-  unfolding piece_of
-  ret_line is returned = returned line is
+  -- it pops the root
+  pub ret_line : line.inst ≡ inst.Ret → Follows inst.Ret
+  unfolding piece_of effect_of
+  ret_line is =
+      single inst.Ret (λ places start. Ret) is refl (λ places own laid p c f s at there spelt. (
+      let top : c.regs 4 ≡ m.top p = spelt.fixed 4 h.stack ∙ h.home p in
+      let at_root : nat_eq (c.regs 4) (m.top p) ≡ true = grind (arith, nat_tests, top) in
+      let last = with_role Outside (go_back 0 (popped (Pops 4 (c.regs 4)) c)) in
+      record {
+        private = at_frame c f;
+        goes = refl;
+        frame = refl;
+        fixed = λ r k. refl;
+        next = record s { place = suc (length m.code.lines); status = Ended; seen = None };
+        output = None;
+        does = λ w. ap (λ i. chosen_by m An_act quiet p i s w) is ∙ ret_does m quiet p s w;
+        regs = refl;
+        bytes = refl;
+        last = last;
+        stills = ap (λ t. if t then Some (remains last None) else None) at_root;
+        place = sym laid.ended;
+        low = omega arith;
+        status = λ runs r. refl;
+      }))
 
   pub out_line : (from : R) → line.inst ≡ inst.Out from → Low m from → Follows (inst.Out from)
   unfolding piece_of effect_of

@@ -43,7 +43,7 @@ module _ {R W : Type 0} (m : Program R W) (law : Laws m) where
     by_inst (inst.Call routine role args results) is r = absurd r
     by_inst (inst.Out from) is r = out_line m h law most enough line expansions from is r
     by_inst inst.Trap is r = trap_line m h law most enough line expansions is
-    by_inst inst.Ret is r = ret_line m h law most enough line expansions is r
+    by_inst inst.Ret is r = ret_line m h law most enough line expansions is
     by_inst inst.Nop is r = nop_line m h law most enough line expansions is
 
   pub line_follows : X86LineFollows m

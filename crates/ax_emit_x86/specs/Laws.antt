@@ -10,7 +10,6 @@ use Rattle.ax_mid.specs.declared.code.Line.{Line}
 use Rattle.ax_mid.specs.declared.instruction.MidInst.{MidInst}
 use Rattle.ax_mid.specs.declared.instruction.MidInst.TheVariants as mid
 use Rattle.ax_x86.specs.declared.instructions.X86Instr.{X86Instr}
-use Rattle.ax_x86.specs.declared.instructions.X86Instr.TheVariants.{Ret}
 use Rattle.ax_x86.specs.Instructions.{x86_kind}
 use Rattle.ax_expand.specs.Doing.{Doing, on_registers}
 use Rattle.ax_expand.specs.Expands.{Expands}
@@ -19,7 +18,7 @@ use Rattle.ax_expand.specs.World.{Lawful, Words}
 use Rattle.ax_fine.specs.Fine.{Program, Sound, fine}
 use Rattle.ax_emit.specs.Atomics.{Counted, firsts}
 use Rattle.ax_emit.specs.Images.{code_in, image_of, places_of, reading_in, tags_in}
-use Rattle.ax_emit.specs.Lines.{LineCode, access_code, ended_code}
+use Rattle.ax_emit.specs.Lines.{LineCode, access_code}
 use Rattle.ax_emit.specs.Touches.{IsSize}
 use Rattle.ax_emit_x86.specs.Code.{Expansion, code_of, homes_from, load_in, size_of, store_in}
 
@@ -36,7 +35,7 @@ abbrev pub few_steps : ℕ
 few_steps = 8
 
 module _ {R W : Type 0} (m : Program R W) where
-  -- frames lie below register 4, which alone no code changes
+  -- frames lie below register 4, which alone no code changes but a `ret`, behind which nothing runs
   pub record X86Based : Type 0 where
     pub sound : Sound m
     pub laws : Lawful m.world
@@ -55,10 +54,6 @@ module _ {R W : Type 0} (m : Program R W) where
   pub record Accessed (doing : Doing W) (acts : X86Instr) (args results : List ℕ) : Type 0 where
     pub counted : Counted doing (length results)
     pub expands : Expands x86_kind m.world 0 every 1 (access_code acts []) (on_registers doing 6 args results)
-
-  -- an entry's `ret` goes where the bytes at the top of the frame say: they lie above all numbers of a middle processor, so that its contract is a premise
-  abbrev pub Returned : ℕ → Type 0
-  Returned most = (line : Line R) → line.inst ≡ mid.Ret → LineCode x86_kind m most 1 (ended_code [] (λ places start. Ret)) line
 
   module _ (expansions : Op → Width → Order → Bool → Expansion) (most : ℕ) where
     -- an expansion meets its contract, on the registers that it is given
@@ -91,7 +86,7 @@ module _ {R W : Type 0} (m : Program R W) where
     IsReady (mid.Call routine role args results) = ⊥
     IsReady (mid.Out from) = Low from
     IsReady mid.Trap = Unit {0}
-    IsReady mid.Ret = Returned most
+    IsReady mid.Ret = Unit {0}
     IsReady mid.Nop = Unit {0}
 
   -- EACH LINE'S CODE HAS ITS CONTRACT

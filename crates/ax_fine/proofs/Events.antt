@@ -613,7 +613,7 @@ module _ {R : Type 0} (x : Framed R) (most : ℕ) (inside : ℕ → Bool) (place
           by (inl none_there) = given_none (chosen A_miss) t (chosen_here none A_miss ∙ none_there) there
           by (inr k) = given_by (chosen A_miss) t _ (chosen_here none A_miss ∙ k.fine_one) k.small.regs there
 
-      fit_here : ((c : ℕ) → x.lives p ≡ true → x.low p ≤ c → c < x.top p → inside c ≡ true) → Fit m p b w.world
+      fit_here : ((c : ℕ) → x.lives p ≡ true → x.low p ≤ c → c < x.top p + 8 → inside c ≡ true) → Fit m p b w.world
       fit_here room = record {
         small = (here.small running).regs;
         bytes = (here.small running).frame;

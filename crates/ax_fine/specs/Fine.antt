@@ -36,7 +36,7 @@ pub record Program (R W : Type 0) : Type 1 where
   pub store : ℕ → Doing W
   -- the processors that there are
   pub lives : ℕ → Bool
-  -- the frame of each, from `low` up to `top`, to which the stack pointer points: so many registers below the top, and so many bytes from `base` on, which lies `depth` below the top
+  -- the frame of each, from `low` up to `top`, to which the stack pointer points: so many registers below the top, and so many bytes from `base` on, which lies `depth` below the top. The 8 bytes from `top` on are the frame's root: code that returns to the place in memory finds there that there is none
   pub count : ℕ
   pub size : ℕ
   pub depth : ℕ
@@ -67,10 +67,11 @@ is_quiet _ = false
 abbrev pub slot : (ℕ → ℕ) → ℕ → ℕ → ℕ
 slot top p r = top p - 8 * (r + 1)
 
--- the bytes that a processor sees in its frame spell the registers and the frame of a middle processor
+-- the bytes that a processor sees in its frame spell the registers and the frame of a middle processor; those of the root are 0, which is no place, and stay so, since all code writes below them
 pub record Spelled {R W : Type 0} (m : Program R W) (p : ℕ) (c : Processor) (f : ℕ → ℕ) (s : MidProcessor) : Type 0 where
   pub regs : (r : ℕ) → r < m.count → number_at f (slot m.top p r) 8 ≡ s.regs r
   pub frame : (b : ℕ) → b < m.size → f (m.base p + b) ≡ s.frame b
+  pub root : number_at f (m.top p) 8 ≡ 0
   pub fixed : (r : ℕ) → m.fixed r ≡ true → c.regs r ≡ m.home p r
   pub role : c.role ≡ Outside
   pub lives : m.lives p ≡ true
@@ -78,9 +79,9 @@ pub record Spelled {R W : Type 0} (m : Program R W) (p : ℕ) (c : Processor) (f
 abbrev pub room_of : {R W : Type 0} → Program R W → ℕ → ℕ → Bool
 room_of m p b = m.lives p && (nat_le (m.low p) b && nat_lt b (m.top p))
 
--- where a frame lies
+-- where a frame lies, with its root
 pub record Sound {R W : Type 0} (m : Program R W) : Type 0 where
-  pub own : (p b : ℕ) → m.lives p ≡ true → m.low p ≤ b → b < m.top p → IsOwn p b
+  pub own : (p b : ℕ) → m.lives p ≡ true → m.low p ≤ b → b < m.top p + 8 → IsOwn p b
   pub area : (p : ℕ) → m.low p ≤ m.base p
   pub deep : (p : ℕ) → m.base p + m.depth ≡ m.top p
   -- all bytes that code can name
@@ -175,7 +176,7 @@ module _ {R W : Type 0} (m : Program R W) where
     pub bytes : (b : ℕ) → s.frame b < 2 ^ 8
     pub next : (g : Given) (t : Did MidProcessor W) (r : ℕ) → chosen_if (line_of s) g p s w ≡ Some t → t.processor.regs r < 2 ^ 64
     pub asks : asks p (line_of s) s w
-    pub room : (b : ℕ) → m.lives p ≡ true → m.low p ≤ b → b < m.top p → m.world.inside w b ≡ true
+    pub room : (b : ℕ) → m.lives p ≡ true → m.low p ≤ b → b < m.top p + 8 → m.world.inside w b ≡ true
 
   abbrev pub fine : (ℕ → ℕ) → Meaning MidProcessor W
   fine place_at =

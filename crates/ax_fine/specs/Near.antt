@@ -170,9 +170,9 @@ FineRunsInStep R =
     (x : Framed R) (most : ℕ) (inside : ℕ → Bool) (places : ℕ → ℕ) (w : Whole MidProcessor Shared) (s : MidState) → IsMeant x most inside s → Near x most inside w s
     → (events : List SourceEvent) → Near x most inside (meant_run (fine (on_bytes x) places) events w) (one_step x most (source_events (fine (on_bytes x) places) events w) s)
 
--- the room of the frame of each processor that runs from the beginning may be used
+-- the room of the frame of each processor that runs from the beginning may be used, with its root
 abbrev pub HasRoom : {R : Type 0} → Framed R → (ℕ → Bool) → MidState → Type 0
-HasRoom x inside s = (p b : ℕ) → (s.processors p).status ≡ Running → x.lives p ≡ true → x.low p ≤ b → b < x.top p → inside b ≡ true
+HasRoom x inside s = (p b : ℕ) → (s.processors p).status ≡ Running → x.lives p ≡ true → x.low p ≤ b → b < x.top p + 8 → inside b ≡ true
 
 -- AND WHAT ITS CODE ASKS HOLDS IN EVERY STATE THAT IT REACHES: numbers fit registers, accesses are to objects or to the own frame
 abbrev pub FineRunsFit : Type 0 → Type 0

@@ -395,6 +395,7 @@ module _ (program : SourceProgram) (expansions : Op → Width → Order → Bool
       record {
         regs = λ q less. zeros (stack_top p - 8 * (q + 1)) 8 (omega (arith, bound, less));
         frame = λ b less. high_zero (area p + b) (omega (arith, bound));
+        root = zeros (stack_top p) 8 (omega (arith, bound));
         fixed = λ q h. ap (λ (n : ℕ). if nat_eq q 2 then n + 131064 else 0) (sym (living p lives));
         role = refl;
         lives = lives;

@@ -35,7 +35,7 @@ use Rattle.ax_selected.specs.Edges.{coming_in, edge_lines, operand_from, set_phi
 use Rattle.ax_selected.specs.Operands.{high_into, is_narrow, low_into}
 use Rattle.ax_selected.specs.Pieces.{Comparison, Straight, apply, bin_lines, comparison, convert_lines, extract_lines, icmp_lines, narrow_bin, narrow_icmp, select_lines, wide_bin, wide_icmp}
 use Rattle.ax_selected.specs.Registers.{first_label, high_in, high_of, low_in, low_of, second_label, virtual}
-use Rattle.ax_selected.specs.Selected.{acting, atomic_load_lines, atomic_store_lines, branch_lines, bytes_at, chosen_by, compared, exchange_lines, fence_lines, found, gep_lines, guarded, halves_into, load_lines, lone, out_operand, piece, reach, silent, store_lines, straight, through, update_lines}
+use Rattle.ax_selected.specs.Selected.{acting, atomic_load_lines, atomic_store_lines, branch_lines, bytes_at, chosen_by, compared, exchange_lines, fence_lines, found, gep_lines, guarded, halves_into, load_lines, lone, next_half, out_operand, piece, reach, silent, store_lines, straight, through, update_lines}
 
 module _ (Q : MidInst Virtual → Type 0) where
   abbrev pub Each : List (MidInst Virtual) → Type 0
@@ -50,7 +50,7 @@ module _ (Q : MidInst Virtual → Type 0) where
     pub silent_lines : Each s.silent
     pub last_line : Q s.last
 
-  -- it holds of each instruction that is no operation on an object
+  -- it holds of each instruction that is no access of an object and no operation on one
   pub record IsPlain : Type 0 where
     pub const : (r : Virtual) (n : ℕ) → Q (mid.Const r n)
     pub copy : (r s : Virtual) → Q (mid.Copy r s)
@@ -62,8 +62,6 @@ module _ (Q : MidInst Virtual → Type 0) where
     pub jump : (n : ℕ) → Q (mid.Jump n)
     pub branch : (r : Virtual) (n m : ℕ) → Q (mid.Branch r n m)
     pub frame : (r : Virtual) (n : ℕ) → Q (mid.FrameAddress r n)
-    pub load : (r s : Virtual) (n : ℕ) → Q (mid.Load r s n)
-    pub store : (r s : Virtual) (n : ℕ) → Q (mid.Store r s n)
     pub out : (r : Virtual) → Q (mid.Out r)
     pub trap : Q mid.Trap
     pub ret : Q mid.Ret
@@ -263,37 +261,40 @@ module _ (Q : MidInst Virtual → Type 0) where
     out_each f k (arg.Value t v ∷ args) = record { silent_lines = (low 0 t v, tt); last_line = p.out _ }
     out_each f k (arg.Pointer a ∷ args) = record { silent_lines = tt; last_line = p.nop }
 
-    load_each : (k : ℕ) (t : Ty) (bytes : ℕ) → IsEach (load_lines k t bytes)
-    load_each k t bytes = by (is_narrow t)
+    -- a number of 16 bytes is loaded and stored by halves
+    pub load_each : (k : ℕ) (t : Ty) (bytes : ℕ) → ((q : Bool) → is_narrow t ≡ q → (r s : Virtual) → Q (mid.Load r s (if q then bytes else 8))) → IsEach (load_lines k t bytes)
+    load_each k t bytes loads = by (is_narrow t) refl
       where
-        by : (q : Bool) → IsEach (if q then load_lines k I8 bytes else load_lines k I128 bytes)
-        by true = record { silent_lines = tt; last_line = p.load _ _ _ }
-        by false = record { silent_lines = (p.load _ _ _, (p.const _ _, (does _ 1 0 1, tt))); last_line = p.load _ _ _ }
+        by : (q : Bool) → is_narrow t ≡ q → IsEach (if q then load_lines k I8 bytes else load_lines k I128 bytes)
+        by true e = record { silent_lines = tt; last_line = loads true e _ _ }
+        by false e = record { silent_lines = (loads false e _ _, (p.const _ _, (does _ 1 0 1, tt))); last_line = loads false e _ _ }
 
-    store_each : (t : Ty) (v : Operand) (bytes : ℕ) → IsEach (store_lines t v bytes)
-    store_each t v bytes = by (is_narrow t)
+    pub store_each : (t : Ty) (v : Operand) (bytes : ℕ) → ((q : Bool) → is_narrow t ≡ q → (r s : Virtual) → Q (mid.Store r s (if q then bytes else 8))) → IsEach (store_lines t v bytes)
+    store_each t v bytes stores = by (is_narrow t) refl
       where
-        by : (q : Bool) → IsEach (if q then record { silent = low_into 3 t v ∷ []; last = mid.Store (virtual 0) (virtual 3) bytes } else record { silent = low_into 3 t v ∷ high_into 4 t v ∷ mid.Store (virtual 0) (virtual 3) 8 ∷ Rattle.ax_selected.specs.Selected.next_half; last = mid.Store (virtual 1) (virtual 4) 8 })
-        by true = record { silent_lines = (low 3 t v, tt); last_line = p.store _ _ _ }
-        by false = record { silent_lines = (low 3 t v, (high 4 t v, (p.store _ _ _, (p.const _ _, (does _ 1 0 1, tt))))); last_line = p.store _ _ _ }
+        by : (q : Bool) → is_narrow t ≡ q → IsEach (if q then record { silent = low_into 3 t v ∷ []; last = mid.Store (virtual 0) (virtual 3) bytes } else record { silent = low_into 3 t v ∷ high_into 4 t v ∷ mid.Store (virtual 0) (virtual 3) 8 ∷ next_half; last = mid.Store (virtual 1) (virtual 4) 8 })
+        by true e = record { silent_lines = (low 3 t v, tt); last_line = stores true e _ _ }
+        by false e = record { silent_lines = (low 3 t v, (high 4 t v, (stores false e _ _, (p.const _ _, (does _ 1 0 1, tt))))); last_line = stores false e _ _ }
 
     lone_each : (i : MidInst Virtual) → Q i → IsEach (lone i)
     lone_each i h = record { silent_lines = tt; last_line = h }
 
-    -- it holds of the operation of an instruction
-    abbrev pub HoldsOf : Inst → Type 0
-    HoldsOf (inst.LoadAtomic t a order align) = (k : ℕ) → Q (atomic_load_lines k t order).last
-    HoldsOf (inst.StoreAtomic t v a order align) = Q (atomic_store_lines t v order).last
-    HoldsOf (inst.Cmpxchg weak a t v u w success failure align) = (k : ℕ) → Q (exchange_lines k weak t v u w (merged_order success failure)).last
-    HoldsOf (inst.Rmw o a t v order align) = (k : ℕ) → Q (update_lines k (operation.Rmw o) t v order).last
-    HoldsOf (inst.Fence single order) = (f k : ℕ) → Q (fence_lines f k single order).last
-    HoldsOf _ = Unit {0}
+    -- it holds of the accesses or the operation of an instruction of a function
+    abbrev pub HoldsOf : SourceProgram → ℕ → Inst → Type 0
+    HoldsOf program f (inst.Load t a align) = (k : ℕ) → IsEach (load_lines k t (bytes_of program f (object_of program f a.base)))
+    HoldsOf program f (inst.Store t v a align) = IsEach (store_lines t v (bytes_of program f (object_of program f a.base)))
+    HoldsOf program f (inst.LoadAtomic t a order align) = (k : ℕ) → Q (atomic_load_lines k t order).last
+    HoldsOf program f (inst.StoreAtomic t v a order align) = Q (atomic_store_lines t v order).last
+    HoldsOf program f (inst.Cmpxchg weak a t v u w success failure align) = (k : ℕ) → Q (exchange_lines k weak t v u w (merged_order success failure)).last
+    HoldsOf program f (inst.Rmw o a t v order align) = (k : ℕ) → Q (update_lines k (operation.Rmw o) t v order).last
+    HoldsOf program f (inst.Fence single order) = (g k : ℕ) → Q (fence_lines g k single order).last
+    HoldsOf program f _ = Unit {0}
 
     module _ (program : SourceProgram) (f k b : ℕ) (blocks : List Block) where
       reaches : (a : Addr) (rest : Straight) → IsEach rest → EachLine f k (reach f k program blocks b a rest)
       reaches a rest h = through_each f k program (object_of program f a.base) (index_at program f a.base a.step) rest (index_each program f a.base a.step) h
 
-      pub piece_each : (i : Inst) → HoldsOf i → EachLine f k (piece f k program blocks b i)
+      pub piece_each : (i : Inst) → HoldsOf program f i → EachLine f k (piece f k program blocks b i)
       unfolding piece
       piece_each (inst.Bin o t v w) h = straight_each f k (bin_lines o k t v w) (bin_each k t v w o)
       piece_each (inst.Icmp c t v w) h = straight_each f k (icmp_lines c k t v w) (icmp_each k t v w (comparison c))
@@ -311,9 +312,9 @@ module _ (Q : MidInst Virtual → Type 0) where
       piece_each inst.Unreachable h = straight_each f k (lone mid.Trap) (lone_each mid.Trap p.trap)
       piece_each (inst.Alloca t count align) h = straight_each f k (lone mid.Nop) (lone_each mid.Nop p.nop)
       piece_each (inst.Gep t count a u v) h = straight_each f k (gep_lines f k (index_of_step program f (object_of program f a) t u v)) (gep_each f k (index_of_step program f (object_of program f a) t u v) (step_each program f (object_of program f a) t u v))
-      piece_each (inst.Load t a align) h = reaches a (load_lines k t (bytes_at f k program blocks b a)) (load_each k t (bytes_at f k program blocks b a))
+      piece_each (inst.Load t a align) h = reaches a (load_lines k t (bytes_at f k program blocks b a)) (h k)
       piece_each (inst.LoadAtomic t a order align) h = reaches a (atomic_load_lines k t order) (record { silent_lines = tt; last_line = h k })
-      piece_each (inst.Store t v a align) h = reaches a (store_lines t v (bytes_at f k program blocks b a)) (store_each t v (bytes_at f k program blocks b a))
+      piece_each (inst.Store t v a align) h = reaches a (store_lines t v (bytes_at f k program blocks b a)) h
       piece_each (inst.StoreAtomic t v a order align) h = reaches a (atomic_store_lines t v order) (record { silent_lines = halves_each 3 4 t v; last_line = h })
       piece_each (inst.Cmpxchg weak a t v u w success failure align) h = reaches a (exchange_lines k weak t v u w (merged_order success failure)) (record { silent_lines = each_both (halves_into 3 4 t v) (halves_into 5 6 u w) (halves_each 3 4 t v) (halves_each 5 6 u w); last_line = h k })
       piece_each (inst.Rmw o a t v order align) h = reaches a (update_lines k (operation.Rmw o) t v order) (record { silent_lines = halves_each 3 4 t v; last_line = h k })

@@ -38,7 +38,9 @@ pub mod Wide
 pub mod WideExchanges
 pub mod WideFrames
 pub mod Each
+pub mod Siting
 pub mod Operating
+pub mod Reached
 pub mod Sites
 pub mod Formed
 pub mod Small

@@ -11,8 +11,9 @@ use Rattle.ax_mid.specs.declared.instruction.MidInst.{MidInst}
 use Rattle.ax_mid.specs.declared.registers.Virtual.{Virtual}
 use Rattle.ax_mid.specs.WellFormed.{IsUpTo, SitesNeverFall}
 use Rattle.ax_words.specs.declared.place.Site.{Site}
+use Rattle.ax_selected.specs.Addresses.{bytes_of, object_of}
 use Rattle.ax_selected.specs.Selected.{blocks_lines, function_lines, functions_lines, insts_lines, piece, selected}
-use Rattle.ax_selected.proofs.Each.{EachLine, HoldsOf, IsPlain, piece_each}
+use Rattle.ax_selected.proofs.Each.{EachLine, HoldsOf, IsPlain, load_each, piece_each, store_each}
 
 abbrev at : ℕ → ℕ → Site
 at f k = record { function = f; instruction = k }
@@ -61,21 +62,21 @@ plain = record {
   jump = λ n. tt;
   branch = λ r n m. tt;
   frame = λ r n. tt;
-  load = λ r s n. tt;
-  store = λ r s n. tt;
   out = λ r. tt;
   trap = tt;
   ret = tt;
   nop = tt;
 }
 
-holds : (i : Inst) → HoldsOf Any plain i
-holds (inst.LoadAtomic t a order align) = λ k. tt
-holds (inst.StoreAtomic t v a order align) = tt
-holds (inst.Cmpxchg weak a t v u w success failure align) = λ k. tt
-holds (inst.Rmw r a t v order align) = λ k. tt
-holds (inst.Fence single order) = λ f k. tt
-holds _ = tt
+holds : (program : SourceProgram) (f : ℕ) (i : Inst) → HoldsOf Any plain program f i
+holds program f (inst.Load t a align) = λ k. load_each Any plain k t (bytes_of program f (object_of program f a.base)) (λ q e r s. tt)
+holds program f (inst.Store t v a align) = store_each Any plain t v (bytes_of program f (object_of program f a.base)) (λ q e r s. tt)
+holds program f (inst.LoadAtomic t a order align) = λ k. tt
+holds program f (inst.StoreAtomic t v a order align) = tt
+holds program f (inst.Cmpxchg weak a t v u w success failure align) = λ k. tt
+holds program f (inst.Rmw r a t v order align) = λ k. tt
+holds program f (inst.Fence single order) = λ g k. tt
+holds program f _ = tt
 
 each_rises : (f k : ℕ) (lines : List (Line Virtual)) → EachLine Any f k lines → Rise lines (at f k) (at f k)
 each_rises f k [] h = same_site (at f k)
@@ -91,7 +92,7 @@ module _ (program : SourceProgram) where
       let rest = insts_lines program f blocks b (k + 1) insts in
       let more : Rise rest (at f k) (at f (k + 1 + length insts)) = rise_from rest (at f k) (at f (k + 1)) (at f (k + 1 + length insts)) (inr (refl, omega arith)) (insts_rise f blocks b (k + 1) insts) in
       let same : k + 1 + length insts ≡ k + suc (length insts) = omega arith in
-      rise_both own rest (at f k) (at f k) (at f (k + suc (length insts))) (each_rises f k own (piece_each Any plain program f k b blocks i (holds i)))
+      rise_both own rest (at f k) (at f k) (at f (k + suc (length insts))) (each_rises f k own (piece_each Any plain program f k b blocks i (holds program f i)))
       (subst (λ (n : ℕ). Rise rest (at f k) (at f n)) same more)
 
   blocks_rise : (f : ℕ) (all : List Block) (b k : ℕ) (blocks : List Block) → Rise (blocks_lines program f all b k blocks) (at f k) (at (f + 1) 0)

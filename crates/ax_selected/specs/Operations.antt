@@ -1,7 +1,9 @@
--- The atomic operations of source and middle code.
-use Rattle.std.specs.Prelude.{◌≡◌, ℕ, Bool, true, false, Option, Some, None, slice_get}
+-- The atomic operations and the plain accesses of source and middle code.
+use Rattle.std.specs.Prelude.{◌≡◌, ℕ, Bool, true, false, if◌then◌else◌, Option, Some, None, slice_get}
 use Rattle.ax_module.specs.declared.inst.Inst.{Inst}
 use Rattle.ax_module.specs.declared.inst.Inst.TheVariants as inst
+use Rattle.ax_module.specs.declared.operand.Addr.{Addr}
+use Rattle.ax_module.specs.declared.types.Ty.{Ty}
 use Rattle.ax_module.specs.declared.types.Ty.TheVariants.{I64}
 use Rattle.ax_source_run.specs.SourceInstructions.{width_of}
 use Rattle.ax_source_run.specs.SourcePointers.{insts_of}
@@ -19,7 +21,9 @@ use Rattle.ax_words.specs.declared.place.Site.{Site}
 use Rattle.ax_words.specs.declared.width.Width.{Width}
 use Rattle.ax_words.specs.Orders.{merged_order}
 use Rattle.ax_words.specs.Width.{bytes_of}
+use Rattle.ax_selected.specs.Addresses.{bytes_of as element_bytes, object_of}
 use Rattle.ax_selected.specs.Direct.{is_direct_way, needs_no_routine}
+use Rattle.ax_selected.specs.Operands.{is_narrow}
 use Rattle.ax_selected.specs.Selected.{selected}
 
 -- an operation, its width and order, and whether it may fail without a cause
@@ -61,3 +65,37 @@ OperationsAreAtSites program m =
 
 abbrev pub SelectedOperationsAreAtSites : Type 0
 SelectedOperationsAreAtSites = (program : SourceProgram) → OperationsAreAtSites program (selected program)
+
+-- ---- a plain access: a load or a store, of so many bytes
+pub record PlainAccess : Type 0 where
+  pub stores : Bool
+  pub bytes : ℕ
+
+-- that of an instruction of middle code
+unfoldable pub access_in : MidInst Virtual → Option PlainAccess
+access_in (mid.Load to address bytes) = Some (record { stores = false; bytes = bytes })
+access_in (mid.Store address from bytes) = Some (record { stores = true; bytes = bytes })
+access_in _ = None
+
+-- an access of a function's object: at 16 bytes it is two of 8
+abbrev pub IsOfElement : SourceProgram → ℕ → Bool → Ty → Addr → PlainAccess → Type 0
+IsOfElement program f stores ty a x = (x.stores ≡ stores) × (x.bytes ≡ (if is_narrow ty then element_bytes program f (object_of program f a.base) else 8))
+
+-- one of a source instruction of a function; others have none
+unfoldable pub IsAccessOf : SourceProgram → ℕ → Inst → PlainAccess → Type 0
+IsAccessOf program f (inst.Load ty a align) x = IsOfElement program f false ty a x
+IsAccessOf program f (inst.Store ty v a align) x = IsOfElement program f true ty a x
+IsAccessOf program f _ x = ⊥
+
+-- a plain access is one of the instruction at a site
+pub record IsAccessAt (program : SourceProgram) (site : Site) (x : PlainAccess) : Type 0 where
+  pub inst : Inst
+  pub at : inst_of_site program site ≡ Some inst
+  pub access : IsAccessOf program site.function inst x
+
+-- so is each plain access of middle code
+abbrev pub AccessesAreAtSites : SourceProgram → Mid Virtual → Type 0
+AccessesAreAtSites program m = (place : ℕ) (line : Line Virtual) (x : PlainAccess) → slice_get m.lines place ≡ Some line → access_in line.inst ≡ Some x → IsAccessAt program line.site x
+
+abbrev pub SelectedAccessesAreAtSites : Type 0
+SelectedAccessesAreAtSites = (program : SourceProgram) → AccessesAreAtSites program (selected program)

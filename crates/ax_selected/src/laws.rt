@@ -3,7 +3,7 @@
 ghost use Rattle.ax_selected.specs.Laid.{CodeIsLaid};
 ghost use Rattle.ax_selected.specs.InStep.{PiecesKeepRunsInStep, SelectedCodeGoesOn, SelectedCodeRunsInStep, SelectedCodeStandsAtSites};
 ghost use Rattle.ax_selected.specs.Formed.{SelectedCodeIsFormed, SelectedLinesAreSmall};
-ghost use Rattle.ax_selected.specs.Operations.{SelectedOperationsAreAtSites};
+ghost use Rattle.ax_selected.specs.Operations.{SelectedAccessesAreAtSites, SelectedOperationsAreAtSites};
 
 use ax_check::laws::{
     accepted_can_be_laid_out, accepted_functions_are_within_limits,
@@ -34,6 +34,13 @@ pub fn code_is_laid()
 #[tactic(auto, using(crate::proofs::Operating::operations_are_at_sites))]
 pub fn selected_operations_are_at_sites()
     ensures { SelectedOperationsAreAtSites }
+{}
+
+/// Each plain load or store of the code is one of the plain load or store at its site: of the bytes of
+/// the object's element, or, where that has 16, of one half of them.
+#[tactic(auto, using(crate::proofs::Reached::accesses_are_at_sites))]
+pub fn selected_accesses_are_at_sites()
+    ensures { SelectedAccessesAreAtSites }
 {}
 
 /// Of each accepted module whose atomic instructions and calls need no routine, the middle code is in

@@ -1,12 +1,7 @@
-pub mod Sums
-pub mod Ranges
 pub mod Instructions
 pub mod Masked
 pub mod Rounds
 pub mod Loops
 pub mod Sizes
 pub mod Lines
-pub mod Drafts
-pub mod Found
-pub mod Fitting
 pub mod Whole

@@ -1,11 +1,11 @@
--- The code of each line is good where it stands in a code of so many instructions.
-use Rattle.std.proofs.Common.{ℕ, ◌+◌, ◌-◌, ◌^◌, ◌<◌, ◌≤◌, pos, Bool, true, false, List, [], ◌∷◌, ◌++◌, length, refl, arith, length-append}
+-- The code of each instruction is good where it stands.
+use Rattle.std.proofs.Common.{ℕ, ◌+◌, ◌-◌, ◌≤◌, pos, Bool, true, false, List, [], ◌∷◌, ◌++◌, length, refl, arith}
 use Rattle.std.specs.Prelude.{if◌then◌else◌, nat_eq}
 use Rattle.ax_words.specs.declared.mark.Op.{Op}
 use Rattle.ax_words.specs.declared.order.Order.{Order}
 use Rattle.ax_words.specs.declared.width.Width.{Width}
 use Rattle.ax_tags.specs.declared.tags.Tag.{Tag}
-use Rattle.ax_tags.specs.declared.tags.Tag.TheVariants.{Act, Silent}
+use Rattle.ax_tags.specs.declared.tags.Tag.TheVariants.{Act}
 use Rattle.ax_target.specs.declared.target.Target.{Target}
 use Rattle.ax_rv.specs.declared.instructions.Binary.TheVariants as binary
 use Rattle.ax_rv.specs.declared.instructions.Condition.TheVariants as condition
@@ -15,20 +15,28 @@ use Rattle.ax_mid.specs.declared.instruction.MidInst.{MidInst}
 use Rattle.ax_mid.specs.declared.instruction.MidInst.TheVariants as mid
 use Rattle.ax_mid.specs.declared.instruction.MidOp.{MidOp}
 use Rattle.ax_mid.specs.declared.instruction.MidOp.TheVariants as op
-use Rattle.ax_expand.specs.Standing.{silently}
-use Rattle.ax_expand.proofs.Straight.{silent_length}
+use Rattle.ax_mid.specs.declared.registers.Virtual.{Virtual}
+use Rattle.ax_mid.specs.WellFormed.{is_last, labels_named}
+use Rattle.ax_expand.specs.Standing.{wrap}
 use Rattle.ax_emit.specs.Atomics.{gets_all, puts_all}
-use Rattle.ax_emit_rv.specs.Code.{cleared, computed, extend_code, first_argument, first_result, get_one, get_two, homes_from, jump_to, load_in, op_code, piece_of, select_code, shift_of, store_in}
+use Rattle.ax_emit.specs.Lines.{access_code}
+use Rattle.ax_emit_rv.specs.Code.{cleared, computed, extend_code, first_argument, first_result, get_one, homes_from, jump_to, load_in, op_code, piece_of, select_code, shift_of, store_in}
 use Rattle.ax_emit_rv.specs.Slots.{down, put_first, put_last, rv_table}
 use Rattle.ax_image_rv.specs.Image.{frame_depth}
+use Rattle.ax_typed.proofs.Places.{here, there}
 use Rattle.ax_direct_rv.specs.Direct.{direct_expansions}
-use Rattle.ax_direct_rv.proofs.Words.{AreWords, few_registers}
-use Rattle.ax_sound_rv.proofs.Instructions.{AllGo, AreGood, AreRegisters, AreStraight, first_goes, forward, gets_go, go_both, good_behind, good_both, homes_are, homes_length, jump_good, last_goes, puts_go, puts_some, straight_both, straight_good, straight_silently, turn_good}
+use Rattle.ax_selected.specs.Registers.{key}
+use Rattle.ax_sound.specs.Fit.{IsFit, IsOperation, StandsInside}
+use Rattle.ax_sound.proofs.Places.{forward}
+use Rattle.ax_sound.proofs.Shapes.{AllPairs, branch_good, branch_size, performed_straight, wrapped_good, wrapped_size}
+use Rattle.ax_sound.proofs.Straight.{AllGo, go_both, straight_good, straight_silently}
+use Rattle.ax_sound.proofs.Registers.{few_registers}
+use Rattle.ax_sound_rv.proofs.Instructions.{AreGood, GoesOn, HasRegister, first_goes, gets_go, homes_are, jump_good, last_goes, puts_go, rv, turn_good}
 use Rattle.ax_sound_rv.proofs.Loops.{direct_good}
-use Rattle.ax_sound_rv.proofs.Sizes.{direct_piece}
+use Rattle.ax_sound_rv.proofs.Sizes.{direct_coding}
 
 -- ---- parts
-op_goes : (o : MidOp) → AllGo (op_code o)
+op_goes : (o : MidOp) → AllGo rv (op_code o)
 op_goes op.Add = ((omega arith, omega arith, omega arith), tt)
 op_goes op.Sub = ((omega arith, omega arith, omega arith), tt)
 op_goes op.Mul = ((omega arith, omega arith, omega arith), tt)
@@ -42,109 +50,89 @@ op_goes op.Ule = ((omega arith, omega arith, omega arith), ((omega arith, omega 
 op_goes op.Slt = ((omega arith, omega arith, omega arith), tt)
 op_goes op.Sle = ((omega arith, omega arith, omega arith), ((omega arith, omega arith), tt))
 
-extend_goes : (bits : ℕ) (signed : Bool) → 1 ≤ bits → AllGo (extend_code bits signed)
+extend_goes : (bits : ℕ) (signed : Bool) → 1 ≤ bits → AllGo rv (extend_code bits signed)
 extend_goes bits signed some = ((omega arith, omega arith, omega (arith, some)), ((omega arith, omega arith, omega (arith, some)), tt))
 
-select_goes : AllGo select_code
+select_goes : AllGo rv select_code
 select_goes = ((omega arith, omega arith), ((omega arith, omega arith), ((omega arith, omega arith, omega arith), ((omega arith, omega arith, omega arith), ((omega arith, omega arith, omega arith), tt)))))
 
-cleared_goes : (n : ℕ) → AllGo (cleared n)
+cleared_goes : (n : ℕ) → AllGo rv (cleared n)
 cleared_goes n = by (nat_eq n 4)
   where
-    by : (b : Bool) → AllGo (if b then extend_code 32 false else [])
+    by : (b : Bool) → AllGo rv (if b then extend_code 32 false else [])
     by true = extend_goes 32 false (omega arith)
     by false = tt
 
-computed_straight : {R : Type 0} (key : R → ℕ) (to : R) (zs : List (ℕ × ℕ)) (is : List RvInstr) → AreRegisters zs → AllGo is → AreStraight (computed key to (gets_all rv_table zs ++ is))
-computed_straight key to zs is h g =
-    let code = gets_all rv_table zs ++ is in
-    straight_both (silently (code ++ put_first (key to) 7)) ((put_last (key to) 7, Act) ∷ [])
-    (straight_silently (code ++ put_first (key to) 7) (go_both code (put_first (key to) 7) (go_both (gets_all rv_table zs) is (gets_go zs h) g) (first_goes (key to) 7 (omega arith))))
-    (last_goes (key to) 7 (omega arith), tt, tt)
+module _ (n start : ℕ) where
+  computed_good : (to : Virtual) (zs : List (ℕ × ℕ)) (is : List RvInstr) → AllPairs HasRegister zs → AllGo rv is → AreGood n start (computed key to (gets_all rv_table zs ++ is))
+  computed_good to zs is h g =
+      let code = gets_all rv_table zs ++ is in
+      straight_good rv n start (computed key to code)
+      (performed_straight rv (code ++ put_first (key to) 7) (put_last (key to) 7) [] (go_both rv code (put_first (key to) 7) (go_both rv (gets_all rv_table zs) is (gets_go zs h) g) (first_goes (key to) 7 (omega arith))) (last_goes (key to) 7 (omega arith)) tt)
 
-wrapped_straight : (before : List RvInstr) (middle : List (RvInstr × Tag)) (after : List RvInstr) → AllGo before → AreStraight middle → AllGo after → AreStraight (silently before ++ (middle ++ silently after))
-wrapped_straight before middle after h g k = straight_both (silently before) (middle ++ silently after) (straight_silently before h) (straight_both middle (silently after) g (straight_silently after k))
+  access_good : (zs ys : List (ℕ × ℕ)) (acts : RvInstr) (clears : List RvInstr) → AllPairs HasRegister zs → AllPairs HasRegister ys → GoesOn acts → AllGo rv clears → AreGood n start (wrap (gets_all rv_table zs) (access_code acts clears) (puts_all rv_table ys) start)
+  access_good zs ys acts clears h g here cleared =
+      let at = start + length (gets_all rv_table zs) in
+      wrapped_good rv n start (gets_all rv_table zs) (access_code acts clears) (puts_all rv_table ys) (gets_go zs h) (puts_go ys g) (straight_good rv n at (access_code acts clears at) (here, tt, straight_silently rv clears cleared))
 
-module _ {R : Type 0} (key : R → ℕ) (behind : ℕ → ℕ) (target : Target) (places : ℕ → ℕ) (total : ℕ) (few : total < 2 ^ 31) where
-  -- the line behind a label has a place of the code
-  abbrev pub IsInside : ℕ → Type 0
-  IsInside n = (1 ≤ places (behind n)) × (places (behind n) ≤ total)
+module _ (target : Target) (behind places : ℕ → ℕ) (n : ℕ) where
+  abbrev code : MidInst Virtual → ℕ → List (RvInstr × Tag)
+  code i start = (direct_coding target behind).piece i places start
 
-  -- what the code of an instruction rests on
-  abbrev pub IsFit : MidInst R → Type 0
-  IsFit (mid.Const to n) = n < 2 ^ 64
-  IsFit (mid.Shift o to from by) = by < 64
-  IsFit (mid.Extend to from bits signed) = 1 ≤ bits
-  IsFit (mid.FrameAddress to offset) = offset < frame_depth
-  IsFit (mid.Jump n) = IsInside n
-  IsFit (mid.Branch test a b) = IsInside a × IsInside b
-  IsFit (mid.Atomic o width order weak address args results) = AreWords o width args results
-  IsFit _ = Unit {0}
+  abbrev Stands : MidInst Virtual → ℕ → Type 0
+  Stands i start = StandsInside behind places n start (length (code i start)) i
 
-  abbrev code : MidInst R → ℕ → List (RvInstr × Tag)
-  code i start = direct_piece key frame_depth behind target i places start
-
-  branch_good : (test : R) (a b start : ℕ) → IsInside a → IsInside b → start + length (code (mid.Branch test a b) start) ≤ total + 1 → AreGood total start (code (mid.Branch test a b) start)
-  unfolding piece_of
-  branch_good test a b start ha hb most =
+  branch_line : (test : Virtual) (a b start : ℕ) → Stands (mid.Branch test a b) start → AreGood n start (code (mid.Branch test a b) start)
+  unfolding piece_of labels_named
+  branch_line test a b start at =
       let is = get_one key 5 test in
-      let first = jump_to (start + length is + 1) (places (behind b)) in
-      let second = jump_to (start + length is + 2) (places (behind a)) in
-      let turns : List (RvInstr × Tag) = (Branch condition.NotEqual 5 0 (pos 2), Silent) ∷ (first, Act) ∷ (second, Act) ∷ [] in
-      let c = length-append (silently is) turns in
-      let d = silent_length is in
-      let le : start + length is + 2 ≤ total = omega (arith, c, d, most) in
-      good_behind total start is turns (gets_go ((5, key test) ∷ []) (omega arith, tt))
-      (turn_good total (start + length is) condition.NotEqual 5 0 (pos 2) (omega arith, omega arith, omega arith) (forward total (start + length is) 2 few (omega arith) le), tt, (jump_good total (start + length is + 1) (places (behind b)) (start + length is + 1) few (omega (arith, le)) hb.0 hb.1 refl, tt, (jump_good total (start + length is + 2) (places (behind a)) (start + length is + 1 + 1) few le ha.0 ha.1 (omega arith), tt, tt)))
+      let turn = Branch condition.NotEqual 5 0 (pos 2) in
+      let long = branch_size is turn jump_to (places (behind a)) (places (behind b)) start in
+      let last = at.last in
+      let le : start + length is + 2 ≤ n = omega (arith, long, last) in
+      branch_good rv n start is turn jump_to (places (behind a)) (places (behind b)) (gets_go ((5, key test) ∷ []) (omega arith, tt)) le
+      (turn_good n (start + length is) condition.NotEqual 5 0 (pos 2) (omega arith, omega arith, omega arith) (forward n (start + length is) 2 at.short (omega arith) le))
+      (jump_good n (start + length is + 1) (places (behind b)) at.short (omega (arith, le)) (at.labels b (there a b (b ∷ []) (here b []))))
+      (jump_good n (start + length is + 2) (places (behind a)) at.short le (at.labels a (here a (b ∷ []))))
 
-  -- behind an operation's code stands that of the slots of what it gives
-  atomic_good : (o : Op) (width : Width) (order : Order) (weak : Bool) (address : R) (args results : List R) (start : ℕ) → 1 ≤ start → AreWords o width args results
-      → (let i = mid.Atomic o width order weak address args results in start + length (code i start) ≤ total + 1 → AreGood total start (code i start))
-  unfolding piece_of
-  atomic_good o width order weak address args results start some words most =
+  -- behind an operation there is code: no function ends with it
+  atomic_line : (o : Op) (width : Width) (order : Order) (weak : Bool) (address : Virtual) (args results : List Virtual) (start : ℕ) → IsOperation target o width order args results
+      → (let i = mid.Atomic o width order weak address args results in Stands i start → AreGood n start (code i start))
+  unfolding piece_of is_last
+  atomic_line o width order weak address args results start words at =
       let before : List (ℕ × ℕ) = (10, key address) ∷ homes_from key first_argument args in
       let after = homes_from key first_result results in
       let is = gets_all rv_table before in
       let js = puts_all rv_table after in
-      let middle = (direct_expansions target o width order weak).piece (start + length is) in
-      let a = length-append (silently is) (middle ++ silently js) in
-      let b = length-append middle (silently js) in
-      let c = silent_length is in
-      let d = silent_length js in
-      let e = puts_some after in
-      let f = homes_length key first_result results in
-      let given = words.1 in
-      let registers = few_registers o width args results words in
-      let few_args = registers.0 in
-      let few_results = registers.1 in
-      good_behind total start is (middle ++ silently js) (gets_go before (omega arith, homes_are key first_argument args (omega (arith, few_args))))
-      (good_both total (start + length is) middle (silently js) (direct_good target width order weak total few (start + length is) (omega (arith, some)) o (omega (arith, a, b, c, d, e, f, given, most)))
-      (straight_good total (start + length is + length middle) (silently js) (straight_silently js (puts_go after (homes_are key first_result results (omega (arith, few_results)))))))
+      let piece = (direct_expansions target o width order weak).piece in
+      let long = wrapped_size is piece js start in
+      let more = at.more refl in
+      let some = at.first in
+      let registers = few_registers target o width order args results words in
+      let taken = registers.0 in
+      let given = registers.1 in
+      wrapped_good rv n start is piece js (gets_go before (omega arith, homes_are key first_argument args (omega (arith, taken)))) (puts_go after (homes_are key first_result results (omega (arith, given))))
+      (direct_good target width order weak n at.short (start + length is) (omega (arith, some)) o (omega (arith, long, more)))
 
-  pub line_good : (i : MidInst R) (start : ℕ) → 1 ≤ start → IsFit i → start + length (code i start) ≤ total + 1 → AreGood total start (code i start)
-  unfolding piece_of
-  line_good (mid.Const to n) start some h most = straight_good total start (code (mid.Const to n) start) (computed_straight key to [] (Li 7 n ∷ []) tt ((omega arith, h), tt))
-  line_good (mid.Copy to from) start some h most = straight_good total start (code (mid.Copy to from) start) (computed_straight key to ((7, key from) ∷ []) [] (omega arith, tt) tt)
-  line_good (mid.Apply o to left right) start some h most = straight_good total start (code (mid.Apply o to left right) start) (computed_straight key to ((5, key left) ∷ (6, key right) ∷ []) (op_code o) (omega arith, (omega arith, tt)) (op_goes o))
-  line_good (mid.Shift o to from by) start some h most = straight_good total start (code (mid.Shift o to from by) start) (computed_straight key to ((7, key from) ∷ []) (Shift (shift_of o) 7 7 by ∷ []) (omega arith, tt) ((omega arith, omega arith, h), tt))
-  line_good (mid.Extend to from bits signed) start some h most = straight_good total start (code (mid.Extend to from bits signed) start) (computed_straight key to ((7, key from) ∷ []) (extend_code bits signed) (omega arith, tt) (extend_goes bits signed h))
-  line_good (mid.Select to test x y) start some h most =
-      straight_good total start (code (mid.Select to test x y) start) (computed_straight key to ((5, key test) ∷ (6, key x) ∷ (7, key y) ∷ []) select_code (omega arith, (omega arith, (omega arith, tt))) select_goes)
-  line_good (mid.FrameAddress to offset) start some h most =
-      straight_good total start (code (mid.FrameAddress to offset) start) (computed_straight key to [] (Li 7 (down (frame_depth - offset)) ∷ Binary binary.Add 7 2 7 ∷ []) tt ((omega arith, omega (arith, h)), ((omega arith, omega arith, omega arith), tt)))
-  line_good (mid.Load to address n) start some h most =
-      straight_good total start (code (mid.Load to address n) start)
-      (wrapped_straight (get_one key 5 address) ((load_in n, Act) ∷ silently (cleared n)) (puts_all rv_table ((7, key to) ∷ [])) (gets_go ((5, key address) ∷ []) (omega arith, tt))
-      ((omega arith, omega arith, omega arith), tt, straight_silently (cleared n) (cleared_goes n)) (puts_go ((7, key to) ∷ []) (omega arith, tt)))
-  line_good (mid.Store address from n) start some h most =
-      straight_good total start (code (mid.Store address from n) start)
-      (wrapped_straight (get_two key address from) ((store_in n, Act) ∷ []) [] (gets_go ((5, key address) ∷ (6, key from) ∷ []) (omega arith, (omega arith, tt))) ((omega arith, omega arith, omega arith), tt, tt) tt)
-  line_good (mid.Label n) start some h most = tt
-  line_good (mid.Jump n) start some h most = (jump_good total start (places (behind n)) start few (omega (arith, most)) h.0 h.1 refl, tt, tt)
-  line_good (mid.Branch test a b) start some h most = branch_good test a b start h.0 h.1 most
-  line_good (mid.Atomic o width order weak address args results) start some h most = atomic_good o width order weak address args results start some h most
-  line_good (mid.Out from) start some h most = straight_good total start (code (mid.Out from) start) (straight_both (silently (get_one key 10 from)) ((Ecall, Act) ∷ []) (straight_silently (get_one key 10 from) (gets_go ((10, key from) ∷ []) (omega arith, tt))) (tt, tt, tt))
-  line_good mid.Trap start some h most = straight_good total start ((Ebreak, Act) ∷ []) (tt, tt, tt)
-  line_good mid.Ret start some h most = straight_good total start ((Ret, Act) ∷ []) (tt, tt, tt)
-  line_good mid.Nop start some h most = straight_good total start ((Nop, Act) ∷ []) (tt, tt, tt)
-  line_good (mid.Call routine role args results) start some h most = tt
+  pub line_good : (i : MidInst Virtual) (start : ℕ) → IsFit target i → Stands i start → AreGood n start (code i start)
+  unfolding piece_of labels_named
+  line_good (mid.Const to m) start fit at = computed_good n start to [] (Li 7 m ∷ []) tt ((omega arith, fit.numbers), tt)
+  line_good (mid.Copy to from) start fit at = computed_good n start to ((7, key from) ∷ []) [] (omega arith, tt) tt
+  line_good (mid.Apply o to left right) start fit at = computed_good n start to ((5, key left) ∷ (6, key right) ∷ []) (op_code o) (omega arith, (omega arith, tt)) (op_goes o)
+  line_good (mid.Shift o to from by) start fit at = computed_good n start to ((7, key from) ∷ []) (Shift (shift_of o) 7 7 by ∷ []) (omega arith, tt) ((omega arith, omega arith, fit.numbers), tt)
+  line_good (mid.Extend to from bits signed) start fit at = computed_good n start to ((7, key from) ∷ []) (extend_code bits signed) (omega arith, tt) (extend_goes bits signed fit.numbers.0)
+  line_good (mid.Select to test x y) start fit at = computed_good n start to ((5, key test) ∷ (6, key x) ∷ (7, key y) ∷ []) select_code (omega arith, (omega arith, (omega arith, tt))) select_goes
+  line_good (mid.FrameAddress to offset) start fit at =
+      let below = fit.numbers in
+      computed_good n start to [] (Li 7 (down (frame_depth - offset)) ∷ Binary binary.Add 7 2 7 ∷ []) tt ((omega arith, omega (arith, below)), ((omega arith, omega arith, omega arith), tt))
+  line_good (mid.Load to address m) start fit at = access_good n start ((5, key address) ∷ []) ((7, key to) ∷ []) (load_in m) (cleared m) (omega arith, tt) (omega arith, tt) (omega arith, omega arith, omega arith) (cleared_goes m)
+  line_good (mid.Store address from m) start fit at = access_good n start ((5, key address) ∷ (6, key from) ∷ []) [] (store_in m) [] (omega arith, (omega arith, tt)) tt (omega arith, omega arith, omega arith) tt
+  line_good (mid.Label m) start fit at = tt
+  line_good (mid.Jump m) start fit at = let last = at.last in (jump_good n start (places (behind m)) at.short (omega (arith, last)) (at.labels m (here m [])), tt, tt)
+  line_good (mid.Branch test a b) start fit at = branch_line test a b start at
+  line_good (mid.Atomic o width order weak address args results) start fit at = atomic_line o width order weak address args results start fit.numbers at
+  line_good (mid.Out from) start fit at = straight_good rv n start (code (mid.Out from) start) (performed_straight rv (get_one key 10 from) Ecall [] (gets_go ((10, key from) ∷ []) (omega arith, tt)) tt tt)
+  line_good mid.Trap start fit at = straight_good rv n start ((Ebreak, Act) ∷ []) (tt, tt, tt)
+  line_good mid.Ret start fit at = straight_good rv n start ((Ret, Act) ∷ []) (tt, tt, tt)
+  line_good mid.Nop start fit at = straight_good rv n start ((Nop, Act) ∷ []) (tt, tt, tt)
+  line_good (mid.Call routine role args results) start fit at = tt

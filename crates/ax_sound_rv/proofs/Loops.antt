@@ -18,14 +18,15 @@ use Rattle.ax_rv.specs.declared.instructions.Unary.TheVariants as unary
 use Rattle.ax_rv.specs.Instructions.{IsDistance}
 use Rattle.ax_expand.specs.Standing.{silently}
 use Rattle.ax_expand.proofs.Straight.{silent_length}
-use Rattle.ax_mid.specs.WellFormed.{words_given}
 use Rattle.ax_emit_rv.specs.Code.{Expansion}
 use Rattle.ax_mask.specs.Codes.{is_narrow, masked_code}
 use Rattle.ax_mask.specs.Pairs.{store_ending}
 use Rattle.ax_llsc.specs.Codes.{Atomic, exchange_of, rounded, rounding, update_of}
 use Rattle.ax_llsc.specs.Loops.{answer, clear, comparand, different, exchange_code, link, nand_back, nand_code, nand_computation, size_of}
 use Rattle.ax_direct_rv.specs.Direct.{direct_expansions}
-use Rattle.ax_sound_rv.proofs.Instructions.{AllGo, AreGood, GoesOn, IsLed, backward, forward, go_both, good_behind, good_of, leap_good, straight_good, straight_silently, turn_good}
+use Rattle.ax_sound.proofs.Places.{IsLed, backward, forward}
+use Rattle.ax_sound.proofs.Straight.{AllGo, go_both, good_behind, straight_good, straight_silently}
+use Rattle.ax_sound_rv.proofs.Instructions.{AreGood, GoesOn, good_of, leap_good, rv, turn_good}
 use Rattle.ax_sound_rv.proofs.Masked.{link_ends, mark_is, masked_few, masked_good, store_ends}
 use Rattle.ax_sound_rv.proofs.Rounds.{clear_goes, one_access, one_few, one_straight}
 
@@ -39,7 +40,7 @@ comparand_goes _ = (omega arith, omega arith, omega arith)
 
 module _ (n : ℕ) (low : n < 2 ^ 31) where
   clear_good : (width : Width) (place : ℕ) → AreGood n place (silently (clear 15 width))
-  clear_good width place = straight_good n place (silently (clear 15 width)) (straight_silently (clear 15 width) (clear_goes width))
+  clear_good width place = straight_good rv n place (silently (clear 15 width)) (straight_silently rv (clear 15 width) (clear_goes width))
 
   -- ---- compare-exchange: a weak one jumps over its last instruction, and there is code behind it
   module _ (width : Width) (order : Order) (place : ℕ) (some : 1 ≤ place) (most : place + 7 ≤ n) where
@@ -85,8 +86,8 @@ module _ (n : ℕ) (low : n < 2 ^ 31) where
         )
 
   -- ---- nand
-  nand_goes : (width : Width) → AllGo (nand_computation width)
-  nand_goes width = go_both (clear 15 width) (Binary binary.And 6 15 11 ∷ Unary unary.Not 6 6 ∷ []) (clear_goes width) ((omega arith, omega arith, omega arith), ((omega arith, omega arith), tt))
+  nand_goes : (width : Width) → AllGo rv (nand_computation width)
+  nand_goes width = go_both rv (clear 15 width) (Binary binary.And 6 15 11 ∷ Unary unary.Not 6 6 ∷ []) (clear_goes width) ((omega arith, omega arith, omega arith), ((omega arith, omega arith), tt))
 
   back_distance : (width : Width) → IsDistance (nand_back width)
   back_distance W32 = omega arith
@@ -109,7 +110,7 @@ module _ (n : ℕ) (low : n < 2 ^ 31) where
         let b = silent_length computation in (
           good_of n place (link width order) (link_goes width order),
           tt,
-          good_behind n (place + 1) computation end (nand_goes width) (
+          good_behind rv n (place + 1) computation end (nand_goes width) (
             good_of n (place + 1 + length computation) (StoreConditional (size_of width) (store_ending order) 7 6 10) (omega arith, omega arith, omega arith, store_ends order),
             tt,
             (turn_good n nand_last condition.NotEqual 7 0 (nand_back width) (omega arith, omega arith, back_distance width) (back_led width (omega (arith, a, b, most))), tt, tt),
@@ -157,32 +158,32 @@ module _ (target : Target) (width : Width) (order : Order) (weak : Bool) where
     direct_most op.Store = let five = one_few target op.Store width order weak start in omega (arith, five)
     direct_most op.Fence = let five = one_few target op.Fence width order weak start in omega (arith, five)
 
-  -- it is good where it stands, with code behind it for each word that it gives
+  -- it is good where it stands, with code behind it
   module _ (n : ℕ) (low : n < 2 ^ 31) (place : ℕ) (some : 1 ≤ place) where
-    abbrev IsFine : Op → List (RvInstr × Tag) → Type 0
-    IsFine o is = place + length is + words_given o width ≤ n + 1 → AreGood n place is
+    abbrev IsFine : List (RvInstr × Tag) → Type 0
+    IsFine is = place + length is ≤ n → AreGood n place is
 
-    exchange_end : (w : Width) (is_weak : Bool) → place + length (exchange_code w order is_weak) + words_given op.Cmpxchg w ≤ n + 1 → place + 7 ≤ n
+    exchange_end : (w : Width) (is_weak : Bool) → place + length (exchange_code w order is_weak) ≤ n → place + 7 ≤ n
     exchange_end W32 true most = omega (arith, most)
     exchange_end W32 false most = omega (arith, most)
     exchange_end _ true most = omega (arith, most)
     exchange_end _ false most = omega (arith, most)
 
-    exchange_fine : (narrow : Bool) → IsFine op.Cmpxchg ((exchange_of narrow width order weak).piece place)
-    exchange_fine true most = let long : place + length (masked_code op.Cmpxchg width order weak) + words_given op.Cmpxchg width ≤ n + 1 = most in masked_good n low width order weak place some op.Cmpxchg (omega (arith, long))
+    exchange_fine : (narrow : Bool) → IsFine ((exchange_of narrow width order weak).piece place)
+    exchange_fine true most = let long : place + length (masked_code op.Cmpxchg width order weak) ≤ n = most in masked_good n low width order weak place some op.Cmpxchg (omega (arith, long))
     exchange_fine false most = exchange_good n low width order place some (exchange_end width weak most) weak
 
-    update_fine : (narrow : Bool) (o : RmwOp) → IsFine (op.Rmw o) ((update_of narrow target o width order weak).piece place)
-    update_fine true o most = let long : place + length (masked_code (op.Rmw o) width order weak) + words_given (op.Rmw o) width ≤ n + 1 = most in masked_good n low width order weak place some (op.Rmw o) (omega (arith, long))
+    update_fine : (narrow : Bool) (o : RmwOp) → IsFine ((update_of narrow target o width order weak).piece place)
+    update_fine true o most = let long : place + length (masked_code (op.Rmw o) width order weak) ≤ n = most in masked_good n low width order weak place some (op.Rmw o) (omega (arith, long))
     update_fine false o most = by (update_is o) most
       where
-        by : (o ≡ rmw.Nand) ⊎ (update_of false target o width order weak ≡ rounded (rounding target (Atomic (op.Rmw o) width order weak))) → IsFine (op.Rmw o) ((update_of false target o width order weak).piece place)
-        by (inl e) = subst (λ (q : RmwOp). IsFine (op.Rmw q) ((update_of false target q width order weak).piece place)) (sym e) (λ most. let long : place + length (nand_code width order) + words_given (op.Rmw rmw.Nand) width ≤ n + 1 = most in nand_good n low width order place some (omega (arith, long)))
-        by (inr e) = subst (λ (z : Expansion). IsFine (op.Rmw o) (z.piece place)) (sym e) (λ most. straight_good n place (one_access target (op.Rmw o) width order weak place) (one_straight target (op.Rmw o) width order weak place))
+        by : (o ≡ rmw.Nand) ⊎ (update_of false target o width order weak ≡ rounded (rounding target (Atomic (op.Rmw o) width order weak))) → IsFine ((update_of false target o width order weak).piece place)
+        by (inl e) = subst (λ (q : RmwOp). IsFine ((update_of false target q width order weak).piece place)) (sym e) (λ most. let long : place + length (nand_code width order) ≤ n = most in nand_good n low width order place some (omega (arith, long)))
+        by (inr e) = subst (λ (z : Expansion). IsFine (z.piece place)) (sym e) (λ most. straight_good rv n place (one_access target (op.Rmw o) width order weak place) (one_straight target (op.Rmw o) width order weak place))
 
-    pub direct_good : (o : Op) → IsFine o (piece o place)
+    pub direct_good : (o : Op) → IsFine (piece o place)
     direct_good op.Cmpxchg most = exchange_fine (is_narrow width) most
     direct_good (op.Rmw o) most = update_fine (is_narrow width) o most
-    direct_good op.Load most = straight_good n place (one_access target op.Load width order weak place) (one_straight target op.Load width order weak place)
-    direct_good op.Store most = straight_good n place (one_access target op.Store width order weak place) (one_straight target op.Store width order weak place)
-    direct_good op.Fence most = straight_good n place (one_access target op.Fence width order weak place) (one_straight target op.Fence width order weak place)
+    direct_good op.Load most = straight_good rv n place (one_access target op.Load width order weak place) (one_straight target op.Load width order weak place)
+    direct_good op.Store most = straight_good rv n place (one_access target op.Store width order weak place) (one_straight target op.Store width order weak place)
+    direct_good op.Fence most = straight_good rv n place (one_access target op.Fence width order weak place) (one_straight target op.Fence width order weak place)

@@ -23,7 +23,9 @@ use Rattle.ax_expand.proofs.Straight.{silent_length}
 use Rattle.ax_loops.specs.PairExchange.{pair_mark}
 use Rattle.ax_mask.specs.Codes.{above, again, both, choose, compares, comparison, computation, different, exchange_answer, exchange_code, exchange_loop, exchange_setup, find_word, link, masked_code, merge, ones, placed_if, store, take_out, to_place, to_top, update_code, update_loop, update_setup}
 use Rattle.ax_mask.specs.Pairs.{link_ending, store_ending}
-use Rattle.ax_sound_rv.proofs.Instructions.{AllGo, AreGood, GoesOn, backward, forward, go_both, good_behind, good_both, good_of, straight_good, straight_silently, turn_good}
+use Rattle.ax_sound.proofs.Places.{backward, forward}
+use Rattle.ax_sound.proofs.Straight.{AllGo, go_both, good_behind, good_both, straight_good, straight_silently}
+use Rattle.ax_sound_rv.proofs.Instructions.{AreGood, GoesOn, good_of, rv, turn_good}
 
 -- ---- a linked load and a pair store have their endings, and each pair store its mark
 pub link_ends : (order : Order) → IsLoadEnding (link_ending order)
@@ -55,7 +57,7 @@ ones_most : (width : Width) → ones width < 2 ^ 64
 ones_most W8 = omega arith
 ones_most _ = omega arith
 
-find_goes : (width : Width) → AllGo (find_word width)
+find_goes : (width : Width) → AllGo rv (find_word width)
 find_goes width =
     let most = above_most width in (
       (omega arith, omega arith, omega arith),
@@ -65,26 +67,26 @@ find_goes width =
       ),
     )
 
-placed_goes : (top : Bool) → AllGo (placed_if top)
+placed_goes : (top : Bool) → AllGo rv (placed_if top)
 placed_goes true = tt
 placed_goes false = ((omega arith, omega arith, omega arith), tt)
 
-update_setup_goes : (o : RmwOp) (width : Width) → AllGo (update_setup o width)
-update_setup_goes o width = go_both (find_word width) (to_top width 28 11 ++ placed_if (compares o)) (find_goes width) ((omega arith, omega arith, above_most width), placed_goes (compares o))
+update_setup_goes : (o : RmwOp) (width : Width) → AllGo rv (update_setup o width)
+update_setup_goes o width = go_both rv (find_word width) (to_top width 28 11 ++ placed_if (compares o)) (find_goes width) ((omega arith, omega arith, above_most width), placed_goes (compares o))
 
-exchange_setup_goes : (width : Width) → AllGo (exchange_setup width)
+exchange_setup_goes : (width : Width) → AllGo rv (exchange_setup width)
 exchange_setup_goes width =
     let most = above_most width in
-    go_both (find_word width) (to_top width 28 11 ++ (to_place 28 ++ (to_top width 30 12 ++ to_place 30))) (find_goes width)
+    go_both rv (find_word width) (to_top width 28 11 ++ (to_place 28 ++ (to_top width 30 12 ++ to_place 30))) (find_goes width)
     ((omega arith, omega arith, most), ((omega arith, omega arith, omega arith), ((omega arith, omega arith, most), ((omega arith, omega arith, omega arith), tt))))
 
-merge_goes : (r : ℕ) → r < 32 → AllGo (merge r)
+merge_goes : (r : ℕ) → r < 32 → AllGo rv (merge r)
 merge_goes r lt = ((omega arith, omega arith, lt), ((omega arith, omega arith, omega arith), ((omega arith, omega arith, omega arith), tt)))
 
-both_goes : (o : BinaryOp) → AllGo (both o)
+both_goes : (o : BinaryOp) → AllGo rv (both o)
 both_goes o = ((omega arith, omega arith, omega arith), merge_goes 29 (omega arith))
 
-choose_goes : (test : RvInstr) → GoesOn test → AllGo (choose test)
+choose_goes : (test : RvInstr) → GoesOn test → AllGo rv (choose test)
 choose_goes test h = (
   (omega arith, omega arith, omega arith),
   (
@@ -96,7 +98,7 @@ choose_goes test h = (
   ),
 )
 
-computation_goes : (o : RmwOp) → AllGo (computation o)
+computation_goes : (o : RmwOp) → AllGo rv (computation o)
 computation_goes rmw.Xchg = merge_goes 28 (omega arith)
 computation_goes rmw.Add = both_goes binary.Add
 computation_goes rmw.Sub = both_goes binary.Subtract
@@ -113,7 +115,7 @@ computation_few : (o : RmwOp) → length (computation o) ≤ 8
 computation_few rmw.Xchg = omega arith
 computation_few _ = omega arith
 
-take_goes : (width : Width) → AllGo (take_out width)
+take_goes : (width : Width) → AllGo rv (take_out width)
 take_goes width = ((omega arith, omega arith, omega arith), ((omega arith, omega arith, above_most width), tt))
 
 link_goes : (order : Order) → GoesOn (link order)
@@ -135,7 +137,7 @@ module _ (n : ℕ) (low : n < 2 ^ 31) where
         let few = computation_few o in (
           good_of n place (link order) (link_goes order),
           tt,
-          good_behind n (place + 1) is end (computation_goes o) (
+          good_behind rv n (place + 1) is end (computation_goes o) (
             good_of n (place + 1 + length is) (store order 29) (store_goes order),
             tt,
             (turn_good n last condition.NotEqual 29 0 (negsuc (length is + 1)) (omega arith, omega arith, omega (arith, few)) (backward n last (length is + 1) low (omega (arith, some)) (omega (arith, a, b, most))), tt, tt),
@@ -150,9 +152,9 @@ module _ (n : ℕ) (low : n < 2 ^ 31) where
         let a = length-append (silently setup ++ loop) (silently out) in
         let b = length-append (silently setup) loop in
         let c = silent_length setup in
-        good_both n place (silently setup ++ loop) (silently out)
-        (good_behind n place setup loop (update_setup_goes o width) (loop_good (place + length setup) (omega (arith, some)) (omega (arith, a, b, c, most))))
-        (straight_good n (place + length (silently setup ++ loop)) (silently out) (straight_silently out (take_goes width)))
+        good_both rv n place (silently setup ++ loop) (silently out)
+        (good_behind rv n place setup loop (update_setup_goes o width) (loop_good (place + length setup) (omega (arith, some)) (omega (arith, a, b, c, most))))
+        (straight_good rv n (place + length (silently setup ++ loop)) (silently out) (straight_silently rv out (take_goes width)))
 
   -- ---- compare-exchanges: the comparison leads to where the answer is made, and a strong one back
   module _ (width : Width) (order : Order) (place : ℕ) (some : 1 ≤ place) where
@@ -164,11 +166,11 @@ module _ (n : ℕ) (low : n < 2 ^ 31) where
     answering = turning + 1 + 3 + 1
 
     answer_good : (weak : Bool) → answering ≤ n → AreGood n answering (silently (exchange_answer weak ++ take_out width))
-    answer_good true most = straight_good n answering (silently (Unary unary.IsZero 16 29 ∷ take_out width)) (straight_silently (Unary unary.IsZero 16 29 ∷ take_out width) ((omega arith, omega arith), take_goes width))
+    answer_good true most = straight_good rv n answering (silently (Unary unary.IsZero 16 29 ∷ take_out width)) (straight_silently rv (Unary unary.IsZero 16 29 ∷ take_out width) ((omega arith, omega arith), take_goes width))
     answer_good false most = (
       turn_good n answering condition.NotEqual 29 0 (negsuc 8) (omega arith, omega arith, omega arith) (backward n answering 8 low (omega (arith, some)) most),
       tt,
-      straight_good n (answering + 1) (silently (Unary unary.IsZero 16 29 ∷ take_out width)) (straight_silently (Unary unary.IsZero 16 29 ∷ take_out width) ((omega arith, omega arith), take_goes width)),
+      straight_good rv n (answering + 1) (silently (Unary unary.IsZero 16 29 ∷ take_out width)) (straight_silently rv (Unary unary.IsZero 16 29 ∷ take_out width) ((omega arith, omega arith), take_goes width)),
     )
 
     pair_good : (weak : Bool) → 1 ≤ different weak → different weak ≤ 6 → turning + different weak ≤ n → answering ≤ n → AreGood n place (exchange_loop width order weak)
@@ -176,10 +178,10 @@ module _ (n : ℕ) (low : n < 2 ^ 31) where
         let rest : List (RvInstr × Tag) = (store order 29, pair_mark weak) ∷ silently (exchange_answer weak ++ take_out width) in (
           good_of n place (link order) (link_goes order),
           (omega arith, omega arith),
-          good_behind n (place + 1) comparison ((Branch condition.NotEqual 29 0 (pos (different weak)), Silent) ∷ (silently (merge 30) ++ rest)) ((omega arith, omega arith, omega arith), ((omega arith, omega arith, omega arith), ((omega arith, omega arith), tt))) (
+          good_behind rv n (place + 1) comparison ((Branch condition.NotEqual 29 0 (pos (different weak)), Silent) ∷ (silently (merge 30) ++ rest)) ((omega arith, omega arith, omega arith), ((omega arith, omega arith, omega arith), ((omega arith, omega arith), tt))) (
             turn_good n turning condition.NotEqual 29 0 (pos (different weak)) (omega arith, omega arith, omega (arith, greatest)) (forward n turning (different weak) low least led),
             tt,
-            good_behind n (turning + 1) (merge 30) rest (merge_goes 30 (omega arith)) (good_of n (turning + 1 + 3) (store order 29) (store_goes order), mark_is weak, answer_good weak most),
+            good_behind rv n (turning + 1) (merge 30) rest (merge_goes 30 (omega arith)) (good_of n (turning + 1 + 3) (store order 29) (store_goes order), mark_is weak, answer_good weak most),
           ),
         )
 
@@ -193,7 +195,7 @@ module _ (n : ℕ) (low : n < 2 ^ 31) where
         let setup = exchange_setup width in
         let loop = exchange_loop width order weak in
         let a = length-append (silently setup) loop in
-        good_behind n place setup loop (exchange_setup_goes width) (loop_by width order (place + length setup) (omega (arith, some)) weak (omega (arith, a, most)))
+        good_behind rv n place setup loop (exchange_setup_goes width) (loop_by width order (place + length setup) (omega (arith, some)) weak (omega (arith, a, most)))
 
     -- ---- each of them
     pub masked_good : (o : Op) → place + length (masked_code o width order weak) ≤ n + 1 → AreGood n place (masked_code o width order weak)

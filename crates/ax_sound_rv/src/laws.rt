@@ -4,12 +4,11 @@
 ghost use Rattle.ax_sound_rv.specs.Short.{DirectImagesAreShort};
 ghost use Rattle.ax_sound_rv.specs.Sound.{DirectImagesAreSound};
 
-use ax_check::laws::accepted_functions_are_within_limits;
 use ax_emit_rv::line_code_is_steady;
-use ax_formed::selected_code_is_well_formed;
 use ax_llsc::direct_code_is_steady;
 use ax_mid::Virtual;
-use ax_selected::selected_lines_are_small;
+use ax_rv::Rv64;
+use ax_sound::{images_are_short, images_are_sound};
 
 /// Of each accepted module that is built the code has fewer than 2 ^ 31 instructions, so that every
 /// place of it is a number of 31 bits, and every distance between two of them one that a jump can
@@ -17,11 +16,9 @@ use ax_selected::selected_lines_are_small;
 pub fn direct_images_are_short()
     ensures { DirectImagesAreShort }
 {
-    accepted_functions_are_within_limits();
-    selected_lines_are_small();
-    selected_code_is_well_formed();
     line_code_is_steady::<Virtual>();
     direct_code_is_steady();
+    images_are_short::<Rv64>();
 }
 
 /// And its image is sound, with a name for each function: registers and numbers are in their ranges,
@@ -30,9 +27,7 @@ pub fn direct_images_are_short()
 pub fn direct_images_are_sound()
     ensures { DirectImagesAreSound }
 {
-    accepted_functions_are_within_limits();
-    selected_lines_are_small();
-    selected_code_is_well_formed();
     line_code_is_steady::<Virtual>();
     direct_code_is_steady();
+    images_are_sound::<Rv64>();
 }

@@ -2,7 +2,7 @@ use Rattle.std.proofs.Common.{ap, sym, ◌∙◌, subst}
 use Rattle.ax_module.specs.declared.module.Module.{Module}
 use Rattle.ax_selected.specs.Formed.{IsFormed, LinesAreSmall}
 use Rattle.ax_selected.specs.InStep.{GoesOn, RunsInStep, StandsAtSites}
-use Rattle.ax_selected.specs.Operations.{OperationsAreAtSites}
+use Rattle.ax_selected.specs.Operations.{AccessesAreAtSites, OperationsAreAtSites}
 use Rattle.ax_select.proofs.Selects.{selects}
 use Rattle.ax_select.proofs.selection.select.Goals as goal
 
@@ -23,6 +23,11 @@ pub returns-clause-operations : goal.returns-clause-operations
 returns-clause-operations c =
     let is = selects c.args.a.now _ _ _ _ _ c.in_ok-globals.ensures c.new-code.ensures.globals c.new-code.ensures.lines (c.as_slice-functions.ensures ∙ ap (λ (m : Module). m.functions) c.module-m.ensures) c.in_ok-push_functions.ensures c.finish.ensures in
     subst (OperationsAreAtSites c.args.a.now) (sym is) (c.selected_operations_are_at_sites.ensures c.args.a.now)
+
+pub returns-clause-accesses : goal.returns-clause-accesses
+returns-clause-accesses c =
+    let is = selects c.args.a.now _ _ _ _ _ c.in_ok-globals.ensures c.new-code.ensures.globals c.new-code.ensures.lines (c.as_slice-functions.ensures ∙ ap (λ (m : Module). m.functions) c.module-m.ensures) c.in_ok-push_functions.ensures c.finish.ensures in
+    subst (AccessesAreAtSites c.args.a.now) (sym is) (c.selected_accesses_are_at_sites.ensures c.args.a.now)
 
 pub returns-clause-formed : goal.returns-clause-formed
 returns-clause-formed c =

@@ -1,0 +1,220 @@
+-- AArch64's code of jumps, branches, outputs and ends.
+use Rattle.std.proofs.Common.{◌≡◌, ℕ, suc, ◌+◌, ◌-◌, ◌%◌, ◌<◌, ◌≤◌, ◌^◌, Bool, true, false, [], ◌∷◌, length, Some, None, refl, sym, ap, ◌∙◌, subst, arith}
+use Rattle.std.specs.Prelude.{if◌then◌else◌, not, nat_eq, nat_le, pos, negsuc}
+use Rattle.std.proofs.lemmas.Bool.Decides.{nat_tests}
+use Rattle.ax_words.specs.declared.mark.Op.{Op}
+use Rattle.ax_words.specs.declared.order.Order.{Order}
+use Rattle.ax_words.specs.declared.width.Width.{Width}
+use Rattle.ax_words.specs.declared.source.SourceStatus.TheVariants.{Ended as Ends, Trapped as Traps}
+use Rattle.ax_tags.specs.declared.tags.Role.TheVariants.{None as Outside}
+use Rattle.ax_isa.specs.declared.cpu.Status.TheVariants.{Ended, Trapped}
+use Rattle.ax_isa.specs.declared.effects.Effect.TheVariants as effect
+use Rattle.ax_isa.specs.Processor.{Processor}
+use Rattle.ax_isa.specs.Steps.{go_back, go_on, go_to, with_status}
+use Rattle.ax_isa.specs.Tells.{An_act, with_role}
+use Rattle.ax_follow.specs.Contract.{machine_status}
+use Rattle.ax_mid.specs.declared.code.Line.{Line}
+use Rattle.ax_mid.specs.declared.instruction.MidInst.{MidInst}
+use Rattle.ax_mid.specs.declared.instruction.MidInst.TheVariants as inst
+use Rattle.ax_mid.specs.Machine.{behind_label, private_step}
+use Rattle.ax_mid.specs.Processor.{MidProcessor, goes_on, unseen}
+use Rattle.ax_arm.specs.declared.instructions.ArmInstr.{ArmInstr}
+use Rattle.ax_arm.specs.declared.instructions.ArmInstr.TheVariants.{Brk, Nop, Ret, Svc}
+use Rattle.ax_isa.specs.Numbers.{displaced}
+use Rattle.ax_arm.specs.Effects.{effect_of, jump_if}
+use Rattle.ax_arm.specs.Instructions.{arm_kind}
+use Rattle.ax_expand.specs.Operation.{hushed}
+use Rattle.ax_expand.proofs.Straight.{goes_place}
+use Rattle.ax_fine.specs.Fine.{Program, Spelled, chosen_by, is_label, is_quiet, room_of, settled, stepped}
+use Rattle.ax_emit.specs.Lines.{Laid, LineCode, branch_code, ended_code, place_behind}
+use Rattle.ax_emit.specs.Performs.{Ends as EndsLine, Splits, at_frame, remains, stilled, turned}
+use Rattle.ax_emit.proofs.Lines.{stepped_place, stepped_same}
+use Rattle.ax_emit.proofs.Moves.{got_all, got_fixed}
+use Rattle.ax_emit_arm.specs.Code.{Expansion, distance, get_one, inst_code, jump_to, piece_of, turn}
+use Rattle.ax_emit_arm.specs.Laws.{Low, ArmBased}
+use Rattle.ax_emit_arm.specs.Slots.{arm_table}
+use Rattle.ax_emit_arm.proofs.Computing.{Laws, based, gets_short, resized}
+
+-- a jump leads to its target
+pub jump_goes : (place target : ℕ) (c : Processor) → c.place ≡ place → place < 2 ^ 32 → target < 2 ^ 32 → arm_kind.effect_of (jump_to place target) c ≡ effect.Jump target
+unfolding effect_of
+jump_goes place target c at low low_target = ap effect.Jump (ap (λ q. displaced q (distance place target)) at ∙ go (nat_le place target) refl)
+  where
+    go : (t : Bool) → nat_le place target ≡ t → displaced place (if t then pos (target - place) else negsuc (place - target - 1)) ≡ target
+    go true e = let le : place ≤ target = grind (arith, nat_tests, e) in (let q : (place + (target - place)) % 2 ^ 64 ≡ target = omega (arith, le, low_target) in q)
+    go false e = let lt : target < place = grind (arith, nat_tests, e) in (let q : (place + (2 ^ 64 - 1 - (place - target - 1))) % 2 ^ 64 ≡ target = omega (arith, lt, low) in q)
+
+-- what these lines do
+jump_does : {R W : Type 0} (m : Program R W) (quiet : Bool) (n p : ℕ) (s : MidProcessor) (w : W)
+    → chosen_by m An_act quiet p (inst.Jump n) s w ≡ Some (record { processor = stepped m quiet (record s { place = behind_label m.key m.code.lines n 0 }); world = w; output = None; gives = hushed quiet An_act; excused = false })
+unfolding chosen_by private_step
+jump_does m quiet n p s w = refl
+
+nop_does : {R W : Type 0} (m : Program R W) (quiet : Bool) (p : ℕ) (s : MidProcessor) (w : W) → chosen_by m An_act quiet p inst.Nop s w ≡ Some (record { processor = stepped m quiet (goes_on s); world = w; output = None; gives = hushed quiet An_act; excused = false })
+unfolding chosen_by private_step
+nop_does m quiet p s w = refl
+
+trap_does : {R W : Type 0} (m : Program R W) (quiet : Bool) (p : ℕ) (s : MidProcessor) (w : W) → chosen_by m An_act quiet p inst.Trap s w ≡ Some (record { processor = record s { status = Traps }; world = w; output = None; gives = hushed quiet An_act; excused = false })
+unfolding chosen_by
+trap_does m quiet p s w = refl
+
+out_does : {R W : Type 0} (m : Program R W) (quiet : Bool) (from : R) (p : ℕ) (s : MidProcessor) (w : W) → chosen_by m An_act quiet p (inst.Out from) s w ≡ Some (record { processor = settled m (unseen (goes_on s)); world = w; output = Some (s.regs (m.key from)); gives = hushed quiet An_act; excused = false })
+unfolding chosen_by
+out_does m quiet from p s w = refl
+
+ret_does : {R W : Type 0} (m : Program R W) (quiet : Bool) (p : ℕ) (s : MidProcessor) (w : W) → chosen_by m An_act quiet p inst.Ret s w ≡ Some (record { processor = record s { place = suc (length m.code.lines); status = Ends; seen = None }; world = w; output = None; gives = hushed quiet An_act; excused = false })
+unfolding chosen_by
+ret_does m quiet p s w = refl
+
+module _ {R W : Type 0} (m : Program R W) (h : ArmBased m) (law : Laws m) (most : ℕ) (enough : 16 ≤ most) (line : Line R) (expansions : Op → Width → Order → Bool → Expansion) where
+  abbrev Follows : MidInst R → Type 0
+  Follows i = LineCode arm_kind m most (length (inst_code m expansions i (λ j. 0) 0)) (λ places start. inst_code m expansions i places start) line
+
+  abbrev quiet : Bool
+  quiet = is_quiet line.tag
+
+  -- a line of one instruction
+  single : (i : MidInst R) (acts : (ℕ → ℕ) → ℕ → ArmInstr) → line.inst ≡ i → is_label i ≡ false
+      → ((places : ℕ → ℕ) (own : ℕ) → Laid m places own 1 → (p : ℕ) (c : Processor) (f : ℕ → ℕ) (s : MidProcessor) → s.place ≡ own → c.place ≡ places own → Spelled m p c f s → EndsLine arm_kind m p line places [] (acts places (places own)) s (at_frame c f))
+      → LineCode arm_kind m most (length (ended_code [] acts (λ j. 0) 0)) (ended_code [] acts) line
+  single i acts is no_label ends = resized arm_kind m most _ (ended_code [] acts) line (law.ended arm_table (based m h) line [] acts most (ap is_label is ∙ no_label) (omega arith) ends)
+
+  pub jump_line : (n : ℕ) → line.inst ≡ inst.Jump n → Follows (inst.Jump n)
+  unfolding piece_of
+  jump_line n is =
+      single (inst.Jump n) (λ places start. jump_to start (place_behind m places n)) is refl (λ places own laid p c f s at there spelt. (
+      let target = place_behind m places n in
+      let next = record s { place = behind_label m.key m.code.lines n 0 } in
+      let same = stepped_same m quiet next in
+      let low = laid.low own in
+      let low_target = laid.low (behind_label m.key m.code.lines n 0) in
+      record {
+        private = at_frame c f;
+        goes = refl;
+        frame = refl;
+        fixed = λ r k. refl;
+        next = stepped m quiet next;
+        output = None;
+        does = λ w. ap (λ i. chosen_by m An_act quiet p i s w) is ∙ jump_does m quiet n p s w;
+        regs = same.regs;
+        bytes = same.frame;
+        last = go_to target c;
+        stills = ap (λ e. stilled (m.top p) e c) (jump_goes (places own) target c there low low_target);
+        place = sym (ap places (stepped_place m quiet next) ∙ laid.settles (behind_label m.key m.code.lines n 0));
+        low = low_target;
+        status = λ runs r. r ∙ sym (ap machine_status (same.status ∙ runs));
+      }))
+
+  pub nop_line : line.inst ≡ inst.Nop → Follows inst.Nop
+  unfolding piece_of effect_of
+  nop_line is =
+      single inst.Nop (λ places start. Nop) is refl (λ places own laid p c f s at there spelt. (
+      let same = stepped_same m quiet (goes_on s) in
+      let ends : c.place + 1 ≡ places (stepped m quiet (goes_on s)).place = ap (λ q. q + 1) there ∙ sym laid.next ∙ sym (ap places (stepped_place m quiet (goes_on s)) ∙ laid.settles (s.place + 1) ∙ ap (λ q. places (q + 1)) at) in
+      record {
+        private = at_frame c f;
+        goes = refl;
+        frame = refl;
+        fixed = λ r k. refl;
+        next = stepped m quiet (goes_on s);
+        output = None;
+        does = λ w. ap (λ i. chosen_by m An_act quiet p i s w) is ∙ nop_does m quiet p s w;
+        regs = same.regs;
+        bytes = same.frame;
+        last = go_on c;
+        stills = refl;
+        place = ends;
+        low = subst (λ q. q < 2 ^ 32) (sym ends) (laid.low (stepped m quiet (goes_on s)).place);
+        status = λ runs r. r ∙ sym (ap machine_status (same.status ∙ runs));
+      }))
+
+  pub trap_line : line.inst ≡ inst.Trap → Follows inst.Trap
+  unfolding piece_of effect_of
+  trap_line is =
+      single inst.Trap (λ places start. Brk) is refl (λ places own laid p c f s at there spelt. record {
+        private = at_frame c f;
+        goes = refl;
+        frame = refl;
+        fixed = λ r k. refl;
+        next = record s { status = Traps };
+        output = None;
+        does = λ w. ap (λ i. chosen_by m An_act quiet p i s w) is ∙ trap_does m quiet p s w;
+        regs = refl;
+        bytes = refl;
+        last = with_status Trapped c;
+        stills = refl;
+        place = there ∙ ap places (sym at);
+        low = subst (λ q. q < 2 ^ 32) (sym there) (laid.low own);
+        status = λ runs r. refl;
+      })
+
+  pub ret_line : line.inst ≡ inst.Ret → Follows inst.Ret
+  unfolding piece_of effect_of
+  ret_line is =
+      single inst.Ret (λ places start. Ret) is refl (λ places own laid p c f s at there spelt. record {
+        private = at_frame c f;
+        goes = refl;
+        frame = refl;
+        fixed = λ r k. refl;
+        next = record s { place = suc (length m.code.lines); status = Ends; seen = None };
+        output = None;
+        does = λ w. ap (λ i. chosen_by m An_act quiet p i s w) is ∙ ret_does m quiet p s w;
+        regs = refl;
+        bytes = refl;
+        last = with_role Outside (with_status Ended (go_to 0 c));
+        stills = ap (λ q. Some (remains (with_role Outside (go_back q c)) None)) (spelt.fixed 30 h.link ∙ h.link_home p);
+        place = sym laid.ended;
+        low = omega arith;
+        status = λ runs r. refl;
+      })
+
+  pub out_line : (from : R) → line.inst ≡ inst.Out from → Low m from → Follows (inst.Out from)
+  unfolding piece_of effect_of
+  out_line from is low =
+      resized arm_kind m most _ (ended_code (get_one m.key 0 from) (λ places start. Svc)) line
+      (law.ended arm_table (based m h) line (get_one m.key 0 from) (λ places start. Svc) most (ap is_label is) (let a = gets_short ((0, m.key from) ∷ []) in omega (arith, a, enough)) (λ places own laid p c f s at there spelt. (
+      let zs = (0, m.key from) ∷ [] in
+      let g = got_all arm_kind m arm_table (based m h) p zs s (at_frame c f) (tt, tt) (refl, tt) (low, tt) spelt in
+      let zero : g.private.cpu.regs 0 ≡ s.regs (m.key from) = (let e = g.numbers in cc) in
+      let moved = goes_place arm_kind (room_of m p) (get_one m.key 0 from) (at_frame c f) g.private g.goes in
+      let next = settled m (unseen (goes_on s)) in
+      let ends : g.private.cpu.place + 1 ≡ places next.place = ap (λ q. q + 1) (moved.0 ∙ ap (λ q. q + length (get_one m.key 0 from)) there) ∙ (let e : places own + length (get_one m.key 0 from) + 1 ≡ places own + (length (get_one m.key 0 from) + 1) = omega arith in e) ∙ sym laid.next ∙ sym (laid.settles (s.place + 1) ∙ ap (λ q. places (q + 1)) at) in
+      record {
+        private = g.private;
+        goes = g.goes;
+        frame = g.frame;
+        fixed = got_fixed arm_kind m arm_table (based m h) p zs s (at_frame c f) g (refl, tt);
+        next = next;
+        output = Some (s.regs (m.key from));
+        does = λ w. ap (λ i. chosen_by m An_act quiet p i s w) is ∙ out_does m quiet from p s w;
+        regs = refl;
+        bytes = refl;
+        last = go_on g.private.cpu;
+        stills = ap (λ v. Some (remains (go_on g.private.cpu) (Some v))) zero;
+        place = ends;
+        low = subst (λ q. q < 2 ^ 32) (sym ends) (laid.low next.place);
+        status = λ runs r. r ∙ sym (ap machine_status runs);
+      })))
+
+  -- A BRANCH: over one jump where the test isn't 0
+  branch_turns : (c : Processor) (v : ℕ) → c.regs 0 ≡ v → c.place + 2 < 2 ^ 32 → turned (arm_kind.effect_of turn c) c ≡ Some (if nat_eq v 0 then c.place + 1 else c.place + 2)
+  unfolding effect_of
+  branch_turns c v zero low = ap (λ q. turned (jump_if (not (nat_eq q 0)) c.place (pos 2)) c) zero ∙ go (nat_eq v 0)
+    where
+      go : (t : Bool) → turned (jump_if (not t) c.place (pos 2)) c ≡ Some (if t then c.place + 1 else c.place + 2)
+      go true = refl
+      go false = ap Some (let q : (c.place + 2) % 2 ^ 64 ≡ c.place + 2 = omega (arith, low) in q)
+
+  pub branch_line : (test : R) (a b : ℕ) → line.inst ≡ inst.Branch test a b → Low m test → Follows (inst.Branch test a b)
+  unfolding piece_of
+  branch_line test a b is low =
+      resized arm_kind m most _ (λ places start. branch_code (get_one m.key 0 test) turn jump_to (place_behind m places a) (place_behind m places b) start) line
+      (law.branched arm_table (based m h) line test a b is (get_one m.key 0 test) turn jump_to most (let e = gets_short ((0, m.key test) ∷ []) in omega (arith, e, enough)) splits jump_goes)
+    where
+      splits : (p : ℕ) (c : Processor) (f : ℕ → ℕ) (s : MidProcessor) → c.place + length (get_one m.key 0 test) + 2 < 2 ^ 32 → Spelled m p c f s → Splits arm_kind m p test (get_one m.key 0 test) turn s (at_frame c f)
+      splits p c f s small spelt =
+          let zs = (0, m.key test) ∷ [] in
+          let g = got_all arm_kind m arm_table (based m h) p zs s (at_frame c f) (tt, tt) (refl, tt) (low, tt) spelt in
+          let zero : g.private.cpu.regs 0 ≡ s.regs (m.key test) = (let e = g.numbers in cc) in
+          let moved = (goes_place arm_kind (room_of m p) (get_one m.key 0 test) (at_frame c f) g.private g.goes).0 in
+          record { private = g.private; goes = g.goes; frame = g.frame; fixed = got_fixed arm_kind m arm_table (based m h) p zs s (at_frame c f) g (refl, tt); turns = branch_turns g.private.cpu (s.regs (m.key test)) zero (omega (arith, moved, small)) }

@@ -1,0 +1,8 @@
+//! Images of modules, for any instruction set.
+#![tactic(auto)]
+
+pub mod laws;
+mod making;
+
+pub use laws::images_have_entries;
+pub use making::image_of;

@@ -1,0 +1,10 @@
+pub mod Sums
+pub mod Ranges
+pub mod Found
+pub mod Straight
+pub mod Places
+pub mod Registers
+pub mod Shapes
+pub mod Drafts
+pub mod Fitting
+pub mod Whole

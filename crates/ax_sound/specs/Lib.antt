@@ -1,0 +1,4 @@
+pub mod Good
+pub mod Fit
+pub mod Pieces
+pub mod Laws

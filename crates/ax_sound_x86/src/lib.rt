@@ -1,0 +1,6 @@
+//! The x86-64 code of middle instructions is sound.
+#![tactic(auto)]
+
+pub mod laws;
+
+pub use laws::x86_pieces_are_sound;
