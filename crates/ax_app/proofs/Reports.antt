@@ -3,10 +3,9 @@ use Rattle.std.proofs.Common.{◌≡◌, ℕ, zero, suc, ◌+◌, ◌-◌, ◌<�
 use Rattle.std.specs.Prelude.{All, drop, slice_get, slice_index_or, Some, Result, Ok, Err, OnOk}
 use Rattle.std.proofs.lemmas.List.{get_or-map, length-map}
 use Rattle.std.proofs.lemmas.Option.{slice_get-get_or}
-use Rattle.ax_isa.specs.declared.images.Image.{Image}
 use Rattle.ax_isa.specs.Run.{Machine}
-use Rattle.ax_rv.specs.declared.instructions.RvInstr.{RvInstr}
-use Rattle.ax_rv.specs.Instructions.{rv_kind}
+use Rattle.ax_lowered.specs.declared.lowered.Code.{Code}
+use Rattle.ax_lowered.specs.Code.{image_of, kind_of}
 use Rattle.ax_module.specs.declared.module.Global.{Global}
 use Rattle.ax_module.specs.Names.{IsAscii}
 use Rattle.ax_layout.specs.Layout.{CanBeLaidOut, LayoutState, count_in, layout_of}
@@ -87,14 +86,15 @@ on_ok (Ok v) P Q f h = f h
 on_ok (Err e) P Q f h = h
 
 -- ---- a run's report once the run has gone
-pub gone : (r : RunState) (image : Image RvInstr) (program : SourceProgram) (plan : Plan) → IsOf image program plan r → HasRun r
-    → run_report r.program (map (λ g. g.name) r.program.source.globals) (length r.plan.entries) (machine_run rv_kind r.machine.image r.program r.plan.entries (plan_events rv_kind r.machine.image r.program r.plan)) r.machine.sources r.machine.events ≡ report_of program image plan
-gone r image program plan of ran =
+pub gone : (r : RunState) (code : Code) (program : SourceProgram) (plan : Plan) → IsOf code program plan r → HasRun r
+    → (let events = plan_events (kind_of r.code) (image_of r.code) r.program r.plan in
+    run_report r.program (map (λ g. g.name) r.program.source.globals) (length r.plan.entries) (machine_run (kind_of r.code) (image_of r.code) r.program r.plan.entries events) r.machine.sources r.machine.events ≡ report_of program code plan)
+gone r code program plan of ran =
     let globals = map (λ (g : Global). g.name) r.program.source.globals in
-    let events = plan_events rv_kind r.machine.image r.program r.plan in
-    let m = machine_run rv_kind r.machine.image r.program r.plan.entries events in
+    let events = plan_events (kind_of r.code) (image_of r.code) r.program r.plan in
+    let m = machine_run (kind_of r.code) (image_of r.code) r.program r.plan.entries events in
     ap (λ es. run_report r.program globals (length r.plan.entries) m r.machine.sources es) ran.machine_schedule
     ∙ ap (λ es. run_report r.program globals (length r.plan.entries) m es events) ran.source_schedule
-    ∙ ap (λ i. report_of r.program i r.plan) of.image_is
-    ∙ ap (λ p. report_of p image r.plan) of.program_is
-    ∙ ap (λ q. report_of program image q) of.plan_is
+    ∙ ap (λ i. report_of r.program i r.plan) of.code_is
+    ∙ ap (λ p. report_of p code r.plan) of.program_is
+    ∙ ap (λ q. report_of program code q) of.plan_is

@@ -44,4 +44,4 @@ lock_part m i (suc n) = lock_line i (word_of_lock m i) ++ lock_part m (i + 1) n
 -- the report of a run of a module whose globals have these names, with so many processors; there are 256 lock words
 abbrev pub run_report : SourceProgram → List (List ℕ) → ℕ → Machine → List SourceEvent → List Event → List ℕ
 run_report program globals processors m source events =
-    head_lines processors (length events) ++ flat_map output_line m.outputs ++ object_part program m.noted.storage.mem 0 globals ++ processor_part program m 0 processors ++ lock_part m 0 256 ++ source_lines source ++ machine_lines events ++ end_line
+    head_lines program.target processors (length events) ++ flat_map output_line m.outputs ++ object_part program m.noted.storage.mem 0 globals ++ processor_part program m 0 processors ++ lock_part m 0 256 ++ source_lines source ++ machine_lines events ++ end_line

@@ -2,8 +2,6 @@
 use Rattle.std.specs.Prelude.{◌≡◌, ℕ, ◌+◌, ◌<◌, ◌≤◌, List, [], ◌∷◌, ◌++◌, length, map, slice_index_or, take, Option, Some, None, false, true}
 use Rattle.std.specs.String.{string_bytes}
 use Rattle.ax_io.specs.Count.{Rose}
-use Rattle.ax_isa.specs.declared.images.Image.{Image}
-use Rattle.ax_rv.specs.declared.instructions.RvInstr.{RvInstr}
 use Rattle.ax_module.specs.declared.module.Module.{Module as ModuleType}
 use Rattle.ax_target.specs.declared.target.Target.{Target}
 use Rattle.ax_check.specs.declared.refusal.Refusal.{Refusal}
@@ -17,9 +15,10 @@ use Rattle.ax_sched.specs.Schedule.{IsFirstBad, IsSchedule}
 use Rattle.ax_agree.specs.Lowers.{Lowers, NeverIdles, machine_run, explanation}
 use Rattle.ax_agree.specs.Rows.{HasRows}
 use Rattle.ax_agree.specs.Sound.{IsSound}
-use Rattle.ax_rv.specs.Instructions.{IsInstr, rv_kind}
 use Rattle.ax_direct_rv.specs.Direct.{is_built}
-use Rattle.ax_print.specs.Assembly.{assembly_text}
+use Rattle.ax_lowered.specs.declared.lowered.Code.{Code}
+use Rattle.ax_lowered.specs.Code.{IsInstrOf, image_of, is_for, kind_of}
+use Rattle.ax_print.specs.Lowered.{code_text}
 use Rattle.ax_run.specs.Plans.{plan_events}
 use Rattle.ax_app.specs.declared.done.Done.{Done}
 use Rattle.ax_app.specs.declared.verdict.Part.{Part}
@@ -36,37 +35,38 @@ use Rattle.ax_app.specs.Report.{run_report}
 abbrev pub on : Target → ModuleType → SourceProgram
 on target m = record { source = m; layout = layout_of m; target = target }
 
--- an image of a module that `lower` and `run` may print
-pub record IsImageOf (program : SourceProgram) (image : Image RvInstr) : Type 0 where
+-- an image of a module that `lower` and `run` may print, in the instruction set of its target
+pub record IsImageOf (program : SourceProgram) (code : Code) : Type 0 where
+  pub set : is_for program.target code ≡ true
   -- for all lists of entries and of events, the machine run and the source run under its explanation agree
-  pub lowers : Lowers rv_kind image program
+  pub lowers : Lowers (kind_of code) (image_of code) program
   -- no processor makes 4,096 Steps in a row of which none is an Act or a caused failure
-  pub busy : NeverIdles rv_kind image program
+  pub busy : NeverIdles (kind_of code) (image_of code) program
   -- each instruction's code has its row of the mapping table
-  pub rows : HasRows rv_kind image program
-  -- among sound images the text fixes the image
-  pub sound : IsSound rv_kind IsInstr (map (λ f. f.name) program.source.functions) image
+  pub rows : HasRows (kind_of code) (image_of code) program
+  -- it is sound, with the names of the functions
+  pub sound : IsSound (kind_of code) (IsInstrOf code) (map (λ f. f.name) program.source.functions) (image_of code)
 
-abbrev pub assembly_of : SourceProgram → Image RvInstr → List ℕ
-assembly_of program image = assembly_text (map (λ f. f.name) program.source.functions) image
+abbrev pub assembly_of : SourceProgram → Code → List ℕ
+assembly_of program code = code_text program.target (map (λ f. f.name) program.source.functions) code
 
 -- a module's assembly: that of an image of it
 pub record IsAssemblyOf (program : SourceProgram) (text : List ℕ) : Type 0 where
-  pub image : Image RvInstr
-  pub of : IsImageOf program image
-  pub whole : text ≡ assembly_of program image
+  pub code : Code
+  pub of : IsImageOf program code
+  pub whole : text ≡ assembly_of program code
 
 -- the report of an image's run under a plan
-abbrev pub report_of : SourceProgram → Image RvInstr → Plan → List ℕ
-report_of program image plan =
-    let events = plan_events rv_kind image program plan in
-    run_report program (map (λ g. g.name) program.source.globals) (length plan.entries) (machine_run rv_kind image program plan.entries events) (explanation rv_kind image program plan.entries events) events
+abbrev pub report_of : SourceProgram → Code → Plan → List ℕ
+report_of program code plan =
+    let events = plan_events (kind_of code) (image_of code) program plan in
+    run_report program (map (λ g. g.name) program.source.globals) (length plan.entries) (machine_run (kind_of code) (image_of code) program plan.entries events) (explanation (kind_of code) (image_of code) program plan.entries events) events
 
 -- a text of a module's run: the assembly of an image of it, and then the report of that image's run under the plan
 pub record IsTextOf (program : SourceProgram) (plan : Plan) (text : List ℕ) : Type 0 where
-  pub image : Image RvInstr
-  pub of : IsImageOf program image
-  pub whole : text ≡ assembly_of program image ++ report_of program image plan
+  pub code : Code
+  pub of : IsImageOf program code
+  pub whole : text ≡ assembly_of program code ++ report_of program code plan
 
 -- the first of the module's faults on the target has this number and this place
 abbrev pub HasRefusal : Target → ModuleType → ℕ → List ℕ → Type 0

@@ -15,6 +15,7 @@ use ax_print::{
     push_processor, push_source,
 };
 use ax_run::Run;
+use ax_target::Target;
 use std::alloc::AllocError;
 
 /// The line of an element of a global, which there is.
@@ -98,12 +99,14 @@ fn push_locks(out: &mut String, run: &Run, count: u32) -> Result<(), AllocError>
     Ok(())
 }
 
-/// Appends the report of a run of a module with these globals.
+/// Appends the report of a run of a module with these globals on a target.
 pub(crate) fn push_report(
     out: &mut String,
     run: &Run,
+    target: Target,
     globals: &[module::Global],
 ) -> Result<(), AllocError>
+    requires target { target ≡ run.now.program.target }
     requires globals { globals.now ≡ run.now.program.source.globals }
     requires few { length globals.now < 2 ^ 32 }
     requires bytes { All (λ name. IsAscii name) (map (λ g. g.name) globals.now) }
@@ -111,12 +114,13 @@ pub(crate) fn push_report(
     requires layout { run.now.program.layout ≡ layout_of run.now.program.source }
     ensures { (m : Machine) → Shows run.now.machine m → OnOk result (string_bytes out.new ≡ string_bytes out.old ++ run_report run.now.program (map (λ g. g.name) globals.now) (length run.now.plan.entries) m run.now.machine.sources run.now.machine.events) }
 {
-    push_head(out, run.processors(), run.machine_schedule().len() as u64)?;
+    let events = run.machine_schedule();
+    push_head(out, target, run.processors(), events.len() as u64)?;
     push_outputs(out, run.outputs())?;
     push_objects(out, run, globals)?;
     push_processors(out, run)?;
     push_locks(out, run, 256)?;
     push_source(out, run.source_schedule())?;
-    push_machine(out, run.machine_schedule())?;
+    push_machine(out, events)?;
     push_end(out)
 }

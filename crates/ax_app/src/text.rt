@@ -27,7 +27,8 @@ fn assembly_of(alloc: Global, accepted: &Accepted) -> Result<String, AllocError>
     accepted.is_without_faults();
     names_are_ascii();
     let lowered = lower(alloc, accepted)?;
-    ax_print::print(alloc, &lowered)
+    let text = ax_print::print(alloc, &lowered)?;
+    Ok(text)
 }
 
 /// What a program that is built comes to as assembly.
@@ -45,12 +46,13 @@ pub(crate) fn lower_of(alloc: Global, accepted: &Accepted) -> Verdict
 fn push_report_of(out: &mut String, run: &Run, accepted: &Accepted) -> Result<(), AllocError>
     requires ran { HasRun run.now }
     requires program { run.now.program ≡ accepted.now }
-    ensures { OnOk result (string_bytes out.new ≡ string_bytes out.old ++ report_of accepted.now run.now.machine.image run.now.plan) }
+    ensures { OnOk result (string_bytes out.new ≡ string_bytes out.old ++ report_of accepted.now run.now.code run.now.plan) }
 {
     accepted.is_without_faults();
     accepted_can_be_laid_out();
     names_are_ascii();
-    push_report(out, run, accepted.module().globals.as_slice())?;
+    let globals = accepted.module().globals.as_slice();
+    push_report(out, run, accepted.target(), globals)?;
     Ok(())
 }
 
@@ -64,8 +66,8 @@ pub fn report(
     accepted: &Accepted,
 ) -> Result<String, AllocError>
     requires ran { HasRun run.now }
-    requires of { IsOf lowered.now.image accepted.now run.now.plan run.now }
-    ensures { IfOk result (λ text. string_bytes text ≡ report_of accepted.now lowered.now.image run.now.plan) }
+    requires of { IsOf lowered.now.code accepted.now run.now.plan run.now }
+    ensures { IfOk result (λ text. string_bytes text ≡ report_of accepted.now lowered.now.code run.now.plan) }
 {
     let mut text = String::new(alloc);
     push_report_of(&mut text, run, accepted)?;

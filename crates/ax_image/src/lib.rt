@@ -4,5 +4,5 @@
 pub mod laws;
 mod making;
 
-pub use laws::images_have_entries;
+pub use laws::{CodedModule, following_images_lower, images_have_entries};
 pub use making::image_of;

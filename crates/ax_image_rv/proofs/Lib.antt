@@ -1,4 +1,1 @@
-pub mod Entries
-pub mod First
-pub mod Ready
 pub mod Lowered

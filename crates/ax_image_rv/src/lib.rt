@@ -3,4 +3,4 @@
 
 pub mod laws;
 
-pub use laws::{rv_images_have_entries, rv_images_lower};
+pub use laws::rv_images_lower;

@@ -6,5 +6,6 @@ mod names;
 
 pub use ax_isa::Image;
 pub use ax_module::Name;
-pub use lowered::Lowered;
+pub use ax_target::Target;
+pub use lowered::{Code, Lowered};
 pub use names::{function_names, global_names};

@@ -1,3 +1,4 @@
 pub mod Globals
 pub mod Meant
+pub mod Knowing
 pub mod Agreeing

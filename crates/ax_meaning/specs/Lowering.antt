@@ -1,6 +1,7 @@
 -- MACHINE CODE THAT FOLLOWS THE FINE MIDDLE MACHINE OF A MODULE'S SELECTED CODE lowers the module.
-use Rattle.std.specs.Prelude.{◌≡◌, ℕ, ◌≤◌, ◌<◌, Bool, true, List, [], option_map, slice_get}
+use Rattle.std.specs.Prelude.{◌≡◌, ℕ, ◌≤◌, ◌<◌, Bool, true, List, [], ◌∷◌, option_map, slice_get}
 use Rattle.ax_words.specs.declared.event.Event.{Event}
+use Rattle.ax_store.specs.declared.entry.Entry.{Entry}
 use Rattle.ax_source_run.specs.SourceRun.{first_numbers, source_run, source_start}
 use Rattle.ax_source_run.specs.SourceState.{PendingStore, SourceProgram}
 use Rattle.ax_map.specs.Map.{globals_start}
@@ -51,9 +52,14 @@ framed program frames = record {
   home = frames.home;
 }
 
--- what selected code means, where the code of each line begins at a place
+-- is the oldest of the stores that wait one of these
+abbrev pub begins_with : (Entry → Bool) → List Entry → Bool
+begins_with test [] = true
+begins_with test (e ∷ es) = test e
+
+-- what selected code means, where the code of each line begins at a place: a drain is a source event where its store is to a native object
 abbrev pub meaning_of : SourceProgram → Frames → (ℕ → ℕ) → Meaning MidProcessor Shared
-meaning_of program frames places = fine (on_bytes (framed program frames)) places
+meaning_of program frames places = record (fine (on_bytes (framed program frames)) places) { drain_gives = λ p w. begins_with (is_native_entry program) (w.pending p) }
 
 -- a fine processor begins behind the labels at the head of its entry
 abbrev pub fine_first : SourceProgram → MidProcessor → MidProcessor

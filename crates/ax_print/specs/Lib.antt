@@ -1,7 +1,5 @@
-pub mod Registers
-pub mod Mnemonics
-pub mod Instructions
 pub mod Assembly
+pub mod Lowered
 pub mod Tokens
 pub mod Lines
 pub mod Report

@@ -1,16 +1,18 @@
--- *Report* for RV64: what a run has put out, the objects, the processors, the locks and the events, a line each.
-use Rattle.std.specs.Prelude.{ℕ, ◌+◌, if◌then◌else◌, nat_eq, List, [], ◌∷◌, ◌++◌, length, map, codes, decimal, flat_map, slice_index}
+-- *Report*: what a run has put out, the objects, the processors, the locks and the events, a line each.
+use Rattle.std.specs.Prelude.{ℕ, if◌then◌else◌, nat_eq, List, [], ◌∷◌, ◌++◌, map, codes, decimal}
 use Rattle.ax_words.specs.declared.source.SourceEvent.{SourceEvent}
 use Rattle.ax_module.specs.Names.{global_token}
+use Rattle.ax_target.specs.declared.target.Target.{Target}
+use Rattle.ax_target.specs.Targets.{name_of as target_name}
 use Rattle.ax_isa.specs.declared.cpu.Status.{Status}
 use Rattle.ax_isa.specs.declared.cpu.Status.TheVariants.{Running, Ended, Trapped, Stuck}
 use Rattle.ax_words.specs.declared.event.Event.{Event}
 use Rattle.ax_print.specs.Tokens.{source_token, machine_token}
 use Rattle.ax_print.specs.Lines.{lines_of}
 
-abbrev pub head_lines : ℕ → ℕ → List ℕ
-head_lines processors events =
-    codes "report" ++ 10 ∷ codes "target rv64" ++ 10 ∷ codes "processors " ++ decimal processors ++ 10 ∷ codes "events " ++ decimal events ++ 10 ∷ []
+abbrev pub head_lines : Target → ℕ → ℕ → List ℕ
+head_lines target processors events =
+    codes "report" ++ 10 ∷ codes "target " ++ target_name target ++ 10 ∷ codes "processors " ++ decimal processors ++ 10 ∷ codes "events " ++ decimal events ++ 10 ∷ []
 
 -- the processor, and the number
 abbrev pub output_line : ℕ × ℕ → List ℕ

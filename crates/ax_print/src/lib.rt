@@ -2,16 +2,14 @@
 #![tactic(auto)]
 
 pub mod assembly;
-mod instructions;
 pub mod lines;
-mod mnemonics;
-pub mod registers;
 pub mod report;
+mod spelled;
 pub mod tokens;
 
 pub use assembly::print;
-pub use instructions::push_instr;
 pub use report::{
     push_end, push_head, push_held, push_lock, push_machine, push_object, push_output,
     push_outputs, push_processor, push_source,
 };
+pub use spelled::Spelled;

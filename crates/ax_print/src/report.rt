@@ -6,16 +6,23 @@ ghost use Rattle.ax_print.specs.Report.{head_lines, output_line, object_line, he
 use crate::lines::push_events;
 use ax_isa::Status;
 use ax_module::Name;
+use ax_target::Target;
 use ax_words::{Event, SourceEvent};
 use std::alloc::AllocError;
 
 /// Appends the first lines: the target, how many processors ran, and how many events there were.
-pub fn push_head(out: &mut String, processors: u8, events: u64) -> Result<(), AllocError>
-    ensures { OnOk result (string_bytes out.new ≡ string_bytes out.old ++ head_lines processors events) }
+pub fn push_head(
+    out: &mut String,
+    target: Target,
+    processors: u8,
+    events: u64,
+) -> Result<(), AllocError>
+    ensures { OnOk result (string_bytes out.new ≡ string_bytes out.old ++ head_lines target processors events) }
 {
+    let name = target.name();
     writeln!(
         out,
-        "report\ntarget rv64\nprocessors {processors}\nevents {events}"
+        "report\ntarget {name}\nprocessors {processors}\nevents {events}"
     )
 }
 

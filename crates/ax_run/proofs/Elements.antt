@@ -13,10 +13,11 @@ use Rattle.ax_module.specs.declared.types.Ty.TheVariants.{I8, I16, I32, I64, I12
 use Rattle.ax_module.specs.Types.{type_bytes}
 use Rattle.ax_map.specs.Map.{IsGlobalsEnd, covers, globals_start, in_regions}
 use Rattle.ax_store.specs.Bytes.{byte_of, cut, is_width, put}
-use Rattle.ax_store.specs.Storage.{stored}
+use Rattle.ax_store.specs.Storage.{flushed, replaced, stored}
 use Rattle.ax_store.specs.Store.{Kept, StoreState, storage_of}
 use Rattle.ax_store.proofs.Calls.{put_written}
 use Rattle.ax_store.proofs.Regions.{globals_access}
+use Rattle.ax_isa.proofs.Functions.{place_kept}
 use Rattle.ax_layout.specs.declared.address_range.AddressRange.{AddressRange}
 use Rattle.ax_layout.proofs.Spans.{grows}
 use Rattle.ax_layout.specs.Layout.{CanBeLaidOut, HasElement, IsLaidOut, LayoutState, address_in, bytes_in, count_in, end_of_span, is_element_type, nowhere, span_after, span_in, spans_after}
@@ -52,6 +53,9 @@ bytes_few I32 h = omega arith
 bytes_few I64 h = omega arith
 bytes_few I128 h = omega arith
 bytes_few _ h = absurd (false≢true h)
+
+pub width_some : (n : ℕ) → is_width n ≡ true → 0 < n
+width_some n h = grind (arith, nat_tests, h)
 
 -- ---- where a global's elements lie
 span_count : (end : ℕ) (globals : List Global) → length (spans_after end globals) ≡ length globals
@@ -157,6 +161,9 @@ pub record Stored (program : SourceProgram) (g i : ℕ) (old new : StoreState) :
       (frames : List ℕ) (mem : ℕ → ℕ) → storage_of old ≡ storage_with (region_end program) frames mem
       → storage_of new ≡ storage_with (region_end program) frames (elements_put (span_in program.layout g) i (first_numbers program.source g) mem)
 
+nothing_waits : (end : ℕ) (frames : List ℕ) (mem : ℕ → ℕ) → flushed 0 (storage_with end frames mem) ≡ storage_with end frames mem
+nothing_waits end frames mem = λ d. record { inside = in_regions end frames; mem = mem; waiting = place_kept (λ p. []) 0 [] refl d; linked = λ p. None }
+
 pub kept_refl : (s : StoreState) → Kept s s
 kept_refl s = record { buffered = refl; count = refl; inside = refl }
 
@@ -170,10 +177,10 @@ module _ (program : SourceProgram) (g : ℕ) where
     storage = λ frames mem e. e ∙ ap (storage_with (region_end program) frames) (sym (put_none (span_in program.layout g) (first_numbers program.source g) mem));
   }
 
-  pub stored_more : (i : ℕ) (old mid new : StoreState) (address bytes number : ℕ) → Stored program g i old mid → old.buffered ≡ false
+  pub stored_more : (i : ℕ) (old mid new : StoreState) (address bytes number : ℕ) → Stored program g i old mid
       → address ≡ address_in program.layout g i → bytes ≡ bytes_in program.layout g → number ≡ first_numbers program.source g i → Lies program.layout g i
-      → storage_of new ≡ stored mid.buffered 0 address bytes number (storage_of mid) → Kept mid new → Stored program g (i + 1) old new
-  stored_more i old mid new address bytes number h flat ea eb en lies e k = record {
+      → storage_of new ≡ replaced 0 address bytes (Some number) (flushed 0 (storage_of mid)) → Kept mid new → Stored program g (i + 1) old new
+  stored_more i old mid new address bytes number h ea eb en lies e k = record {
     kept = kept_more old mid new h.kept k;
     storage = λ frames mem begins.
         let span = span_in program.layout g in
@@ -182,11 +189,11 @@ module _ (program : SourceProgram) (g : ℕ) where
         let past : program.layout.end ≤ region_end program = omega arith in
         let high : span.start + i * span.bytes + span.bytes ≤ region_end program = omega (arith, last, past) in
         e
-        ∙ ap (λ t. stored t 0 address bytes number (storage_of mid)) (h.kept.buffered ∙ flat)
-        ∙ ap (λ a. stored false 0 a bytes number (storage_of mid)) ea
-        ∙ ap (λ n. stored false 0 (span.start + i * span.bytes) n number (storage_of mid)) eb
-        ∙ ap (λ n. stored false 0 (span.start + i * span.bytes) span.bytes n (storage_of mid)) en
-        ∙ ap (stored false 0 (span.start + i * span.bytes) span.bytes (numbers i)) (h.storage frames mem begins)
+        ∙ ap (λ a. stored false 0 a bytes number (flushed 0 (storage_of mid))) ea
+        ∙ ap (λ n. stored false 0 (span.start + i * span.bytes) n number (flushed 0 (storage_of mid))) eb
+        ∙ ap (λ n. stored false 0 (span.start + i * span.bytes) span.bytes n (flushed 0 (storage_of mid))) en
+        ∙ ap (λ st. stored false 0 (span.start + i * span.bytes) span.bytes (numbers i) (flushed 0 st)) (h.storage frames mem begins)
+        ∙ ap (stored false 0 (span.start + i * span.bytes) span.bytes (numbers i)) (nothing_waits (region_end program) frames (elements_put span i numbers mem))
         ∙ put_stored span numbers mem (region_end program) frames i lies.first high;
   }
 

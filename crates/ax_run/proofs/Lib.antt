@@ -3,3 +3,8 @@ pub mod Starting
 pub mod Elements
 pub mod Reading
 pub mod Plans
+pub mod Natives
+pub mod Entering
+pub mod Sending
+pub mod Advancing
+pub mod Ending

@@ -1,5 +1,5 @@
 -- The events of directives, one by one, as a machine makes them.
-use Rattle.std.proofs.Common.{◌≡◌, ℕ, zero, suc, ◌+◌, ◌-◌, ◌<◌, ◌≤◌, Bool, true, false, List, [], ◌∷◌, ◌++◌, length, map, Option, Some, None, refl, sym, ap, ◌∙◌, subst, append_assoc, append-nil, slice_index_or, slice_set, arith}
+use Rattle.std.proofs.Common.{◌≡◌, ℕ, zero, suc, ◌+◌, ◌-◌, ◌<◌, ◌≤◌, Bool, true, false, List, [], ◌∷◌, ◌++◌, length, Some, None, refl, sym, ap, ◌∙◌, append_assoc, slice_index_or, slice_set, arith}
 use Rattle.std.specs.Prelude.{◌≢◌, ◌&&◌, ◌||◌, ◌==◌, not, nat_lt, is_some, if◌then◌else◌}
 use Rattle.std.specs.List.{range_with_len}
 use Rattle.std.proofs.lemmas.Bool.{false≢true}
@@ -7,12 +7,11 @@ use Rattle.std.proofs.lemmas.Bool.Decides.{nat_tests}
 use Rattle.std.proofs.lemmas.Grind.{common_steps}
 use Rattle.std.proofs.lemmas.List.FromFn.{get_or-map-range_with_len}
 use Rattle.ax_words.specs.declared.event.Event.{Event}
-use Rattle.ax_store.specs.Store.{storage_of}
 use Rattle.ax_isa.specs.declared.cpu.Status.{Status}
 use Rattle.ax_isa.specs.declared.cpu.Status.TheVariants.{Running, Ended, Trapped, Stuck}
 use Rattle.ax_isa.specs.Run.{Machine, Setting, happens, run}
-use Rattle.ax_rv.specs.declared.instructions.RvInstr.{RvInstr}
-use Rattle.ax_rv.specs.Instructions.{rv_kind}
+use Rattle.ax_isa.specs.declared.images.Image.{Image}
+use Rattle.ax_isa.specs.Steps.{Kind}
 use Rattle.ax_agree.specs.Library.{image_setting}
 use Rattle.ax_target.specs.declared.target.Target.{Target}
 use Rattle.ax_sched.specs.declared.glance.Glance.{Glance}
@@ -20,7 +19,7 @@ use Rattle.ax_sched.specs.declared.plan.Item.{Item}
 use Rattle.ax_sched.specs.declared.plan.Item.TheVariants.{Step, Drain, Drop, Link, Round, Random}
 use Rattle.ax_sched.specs.Events.{Seen, and_then, behind, chosen, events_of, goes_on, is_met, item_events, next_event}
 use Rattle.ax_sched.specs.Plan.{IsWithin, times_of}
-use Rattle.ax_run.specs.Machine.{Kept, MachineState, Shows, Tells, run_of, seen_in}
+use Rattle.ax_run.specs.Machine.{Kept, MachineState, run_of, seen_in}
 use Rattle.ax_run.specs.Plans.{glance_of, is_running, of_each, seen_by}
 use Rattle.ax_run.proofs.Telling.{run_more}
 
@@ -76,7 +75,7 @@ set_each xs n b f room is before q less = by (Rattle.std.specs.Prelude.nat_eq q 
     by false e = (let other : q < n = grind (arith, nat_tests) in set_one ∙ ap (λ t. if t then b else slice_index_or xs q false) e ∙ before q other)
 
 -- ---- the events of a directive
-module _ (target : Target) (x : Setting RvInstr) (n : ℕ) where
+module _ {I : Type 0} (target : Target) (x : Setting I) (n : ℕ) where
   abbrev seen : Seen Machine
   seen = seen_by x n
 
@@ -105,54 +104,45 @@ module _ (target : Target) (x : Setting RvInstr) (n : ℕ) where
       ap (λ m. was ++ (es ++ events_of seen target items m)) (run_all was es start ∙ sym (behind_is es (run x was start)))
 
 -- ---- the machine goes on
-module _ (target : Target) (old now new : MachineState) (kept : Kept old now) (more : Kept now new) where
-  abbrev x : Setting RvInstr
-  x = image_setting rv_kind old.image
+module _ {I : Type 0} (kind : Kind I) (image : Image I) (target : Target) (old now new : MachineState) (kept : Kept old now) where
+  abbrev x : Setting I
+  x = image_setting kind image
 
-  image : now.image ≡ old.image
-  image = kept.image
+  abbrev seen_old : Seen Machine
+  seen_old = seen_in kind image old
 
-  image_on : new.image ≡ old.image
-  image_on = more.image ∙ kept.image
+  abbrev told : MachineState → Machine → Machine
+  told r start = run_of kind image r start
 
-  run_on : (start : Machine) (es : List Event) → new.events ≡ es → run_of new start ≡ run x es start
-  run_on start es e = ap (λ i. run (image_setting rv_kind i) new.events start) image_on ∙ ap (λ l. run x l start) e
-
-  run_now : (start : Machine) → run_of now start ≡ run x now.events start
-  run_now start = ap (λ i. run (image_setting rv_kind i) now.events start) image
-
-  seen_now : seen_in now ≡ seen_in old
-  seen_now = ap (λ i. seen_by (image_setting rv_kind i) (length now.processors)) image ∙ ap (seen_by x) kept.count
+  run_on : (start : Machine) (es : List Event) → new.events ≡ es → told new start ≡ run x es start
+  run_on start es e = ap (λ l. run x l start) e
 
   -- one event more of a directive
-  pub event_made : (item : Item) (number : ℕ) (e : Event) (start : Machine) → number < times_of item → new.events ≡ now.events ++ e ∷ [] → next_event target item (glance_of (length now.processors) (run_of now start) number) ≡ Some e
-      → new.events ++ item_events (seen_in old) target item (times_of item - (number + 1)) (number + 1) (run_of new start) ≡ now.events ++ item_events (seen_in old) target item (times_of item - number) number (run_of now start)
+  pub event_made : (item : Item) (number : ℕ) (e : Event) (start : Machine) → number < times_of item → new.events ≡ now.events ++ e ∷ [] → next_event target item (glance_of (length now.processors) (told now start) number) ≡ Some e
+      → new.events ++ item_events seen_old target item (times_of item - (number + 1)) (number + 1) (told new start) ≡ now.events ++ item_events seen_old target item (times_of item - number) number (told now start)
   event_made item number e start less events is =
       let n = length old.processors in
       let m = run x now.events start in
       let rest = times_of item - (number + 1) in
-      let next : next_event target item (glance_of n m number) ≡ Some e = ap (λ c. next_event target item (glance_of c m number)) (sym kept.count) ∙ ap (λ y. next_event target item (glance_of (length now.processors) y number)) (sym (run_now start)) ∙ is in
-      ap (λ y. new.events ++ item_events (seen_in old) target item rest (number + 1) y) (run_on start (now.events ++ e ∷ []) events ∙ run_more x now.events e start)
-      ∙ ap (λ l. l ++ item_events (seen_in old) target item rest (number + 1) (happens x e m)) events
-      ∙ append_assoc now.events (e ∷ []) (item_events (seen_in old) target item rest (number + 1) (happens x e m))
+      let next : next_event target item (glance_of n m number) ≡ Some e = ap (λ c. next_event target item (glance_of c m number)) (sym kept.count) ∙ is in
+      ap (λ y. new.events ++ item_events seen_old target item rest (number + 1) y) (run_on start (now.events ++ e ∷ []) events ∙ run_more x now.events e start)
+      ∙ ap (λ l. l ++ item_events seen_old target item rest (number + 1) (happens x e m)) events
+      ∙ append_assoc now.events (e ∷ []) (item_events seen_old target item rest (number + 1) (happens x e m))
       ∙ ap (λ l. now.events ++ l) (sym (one_more target x n item (times_of item) number m e less next))
-      ∙ ap (λ y. now.events ++ item_events (seen_in old) target item (times_of item - number) number y) (sym (run_now start))
 
   -- none more
-  pub event_none : (item : Item) (left number : ℕ) (start : Machine) → next_event target item (glance_of (length now.processors) (run_of now start) number) ≡ None → item_events (seen_in old) target item left number (run_of now start) ≡ []
+  pub event_none : (item : Item) (left number : ℕ) (start : Machine) → next_event target item (glance_of (length now.processors) (told now start) number) ≡ None → item_events seen_old target item left number (told now start) ≡ []
   event_none item left number start is =
-      let n = length old.processors in
-      none_left target x n item left number (run_of now start) (ap (λ c. next_event target item (glance_of c (run_of now start) number)) (sym kept.count) ∙ is)
+      none_left target x (length old.processors) item left number (told now start) (ap (λ c. next_event target item (glance_of c (told now start) number)) (sym kept.count) ∙ is)
 
   -- the events of a directive more
-  pub item_made : (item : Item) (items : List Item) (start : Machine) → new.events ≡ now.events ++ item_events (seen_in now) target item (times_of item) 0 (run_of now start)
-      → new.events ++ events_of (seen_in old) target items (run_of new start) ≡ now.events ++ events_of (seen_in old) target (item ∷ items) (run_of now start)
+  pub item_made : (item : Item) (items : List Item) (start : Machine) → new.events ≡ now.events ++ item_events (seen_in kind image now) target item (times_of item) 0 (told now start)
+      → new.events ++ events_of seen_old target items (told new start) ≡ now.events ++ events_of seen_old target (item ∷ items) (told now start)
   item_made item items start events =
       let n = length old.processors in
-      let es = item_events (seen_in old) target item (times_of item) 0 (run x now.events start) in
-      let made : new.events ≡ now.events ++ es = events ∙ ap (λ s. now.events ++ item_events s target item (times_of item) 0 (run_of now start)) seen_now ∙ ap (λ m. now.events ++ item_events (seen_in old) target item (times_of item) 0 m) (run_now start) in
-      ap (λ m. new.events ++ events_of (seen_in old) target items m) (run_on start (now.events ++ es) made)
-      ∙ ap (λ l. l ++ events_of (seen_in old) target items (run x (now.events ++ es) start)) made
-      ∙ append_assoc now.events es (events_of (seen_in old) target items (run x (now.events ++ es) start))
+      let es = item_events seen_old target item (times_of item) 0 (told now start) in
+      let made : new.events ≡ now.events ++ es = events ∙ ap (λ c. now.events ++ item_events (seen_by x c) target item (times_of item) 0 (told now start)) kept.count in
+      ap (λ m. new.events ++ events_of seen_old target items m) (run_on start (now.events ++ es) made)
+      ∙ ap (λ l. l ++ events_of seen_old target items (run x (now.events ++ es) start)) made
+      ∙ append_assoc now.events es (events_of seen_old target items (run x (now.events ++ es) start))
       ∙ events_more target x n item items now.events start
-      ∙ ap (λ m. now.events ++ events_of (seen_in old) target (item ∷ items) m) (sym (run_now start))

@@ -1,5 +1,6 @@
 pub mod MachineState
 pub mod Plans
+pub mod Waiting
 pub mod Machine
 pub mod Objects
 pub mod Start

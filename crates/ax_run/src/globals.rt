@@ -1,6 +1,6 @@
 //! The first numbers of a module's globals in memory.
 
-ghost use Rattle.std.specs.Prelude.{◌≡◌, ◌≤◌, ℕ, IsTrue, List, Some, false, length, slice_get};
+ghost use Rattle.std.specs.Prelude.{◌≡◌, ◌≤◌, ℕ, IsTrue, List, Some, length, slice_get};
 ghost use Rattle.ax_store.specs.Store.{Kept, processors, storage_of};
 ghost use Rattle.ax_layout.specs.Layout.{span_in};
 ghost use Rattle.ax_source_run.specs.SourceRun.{constants_of, first_numbers};
@@ -8,6 +8,7 @@ ghost use Rattle.ax_agree.specs.Lowers.{first_byte, region_end};
 ghost use Rattle.ax_cells.specs.Narrow.{is_narrow};
 ghost use Rattle.ax_run.specs.Start.{elements_put, storage_with};
 
+use crate::memory::put_number;
 use crate::objects::element_bytes;
 use ax_cells::constant;
 use ax_check::Accepted;
@@ -30,7 +31,6 @@ fn first_number(global: &module::Global, i: u64) -> u128
 /// Stores the first numbers of the elements of global g.
 fn store_elements(store: &mut Store, program: &Accepted, g: u32, global: &module::Global)
     requires global { slice_get program.now.source.globals g ≡ Some global.now }
-    requires unbuffered { store.old.buffered ≡ false }
     requires some { 1 ≤ processors store.old }
     ensures kept { Kept store.old store.new }
     ensures storage { (frames : List ℕ) (mem : ℕ → ℕ) → storage_of store.old ≡ storage_with (region_end program.now) frames mem → storage_of store.new ≡ storage_with (region_end program.now) frames (elements_put (span_in program.now.layout g) global.now.count (first_numbers program.now.source g) mem) }
@@ -41,14 +41,13 @@ fn store_elements(store: &mut Store, program: &Accepted, g: u32, global: &module
     let bytes = element_bytes(program, g, global);
     for i in 0..global.count {
         let address = program.layout().address(g, i);
-        store.store(0, address, bytes, first_number(global, i));
+        put_number(store, address, bytes, first_number(global, i));
     }
 }
 
 /// Stores the first numbers of all globals, from the last global to the first.
 pub(crate) fn store_globals(store: &mut Store, program: &Accepted)
     requires few { length program.now.source.globals ≤ 256 }
-    requires unbuffered { store.old.buffered ≡ false }
     requires some { 1 ≤ processors store.old }
     ensures kept { Kept store.old store.new }
     ensures storage { (frames : List ℕ) → storage_of store.old ≡ storage_with (region_end program.now) frames (λ a. 0) → storage_of store.new ≡ storage_with (region_end program.now) frames (first_byte program.now) }

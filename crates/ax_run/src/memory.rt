@@ -1,9 +1,10 @@
 //! Numbers in memory.
 
-ghost use Rattle.std.specs.Prelude.{◌≡◌, ◌<◌, ◌≤◌, ◌+◌, ◌*◌, ◌^◌};
+ghost use Rattle.std.specs.Prelude.{◌≡◌, ◌<◌, ◌≤◌, ◌+◌, ◌*◌, ◌^◌, Some};
 ghost use Rattle.ax_map.specs.Map.{lock_word};
-ghost use Rattle.ax_store.specs.Bytes.{number_at};
-ghost use Rattle.ax_store.specs.Store.{storage_of};
+ghost use Rattle.ax_store.specs.Bytes.{IsWidth, number_at};
+ghost use Rattle.ax_store.specs.Storage.{flushed, replaced};
+ghost use Rattle.ax_store.specs.Store.{Kept, processors, storage_of};
 
 use ax_map::LOCK_TABLE_START;
 use ax_store::Store;
@@ -30,4 +31,14 @@ pub(crate) fn lock_word(store: &Store, i: u32) -> u32
     ensures { result ≡ number_at (storage_of store.now).mem (lock_word i) 4 }
 {
     number_in(store, LOCK_TABLE_START + 64 * i as u64, 4) as u32
+}
+
+/// Writes an initial number of n bytes to memory, on a machine with buffers too.
+pub(crate) fn put_number(store: &mut Store, address: u64, n: u8, number: u128)
+    requires width { IsWidth n }
+    requires some { 1 ≤ processors store.old }
+    ensures storage { storage_of store.new ≡ replaced 0 address n (Some number) (flushed 0 (storage_of store.old)) }
+    ensures kept { Kept store.old store.new }
+{
+    let _ = store.locked(0, address, n, |_| Some(number));
 }

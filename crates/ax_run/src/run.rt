@@ -8,7 +8,7 @@ ghost use Rattle.ax_store.specs.Bytes.{number_at};
 ghost use Rattle.ax_sched.specs.Plan.{IsPlan, times_of};
 ghost use Rattle.ax_agree.specs.Agree.{native_entries};
 ghost use Rattle.ax_agree.specs.Sound.{IsSound};
-ghost use Rattle.ax_rv.specs.Instructions.{IsInstr, rv_kind};
+ghost use Rattle.ax_lowered.specs.Code.{IsInstrOf, image_of, kind_of};
 ghost use Rattle.ax_run.specs.Objects.{object_in};
 ghost use Rattle.ax_run.specs.Run.{HasRun, IsOf, Reads};
 
@@ -18,7 +18,7 @@ use crate::objects::object_in;
 use crate::start::start;
 use ax_check::Accepted;
 use ax_isa::Status;
-use ax_lowered::Lowered;
+use ax_lowered::{Code, Lowered};
 use ax_sched::{Item, Plan};
 use ax_words::{Event, SourceEvent};
 use std::alloc::{AllocError, Global};
@@ -28,7 +28,7 @@ use std::marker::Model;
 /// machine, its outputs, and the source events that the tags of its image give.
 #[derive(Drop)]
 pub struct Run<'a> {
-    program: &'a Accepted,
+    code: &'a Code,
     plan: &'a Plan,
     machine: Machine<'a>,
     ended: bool,
@@ -41,9 +41,9 @@ impl<'a> Model for Run<'a> {
 
     ghost use Rattle.ax_run.specs.Run.{IsSoundRun};
 
-    ghost view = { λ r. record { program = r.program.now; plan = r.plan.now; machine = r.machine; ended = r.ended } };
+    ghost view = { λ r. record { code = r.code.now; program = r.machine.program; plan = r.plan.now; machine = r.machine; ended = r.ended } };
 
-    ghost invariant = { λ r. IsSoundRun (record { program = r.program.now; plan = r.plan.now; machine = r.machine; ended = r.ended }) };
+    ghost invariant = { λ r. IsSoundRun (record { code = r.code.now; program = r.machine.program; plan = r.plan.now; machine = r.machine; ended = r.ended }) };
 }
 
 /// How many events directives make.
@@ -64,16 +64,16 @@ pub fn prepare<'a>(
     program: &'a Accepted,
     plan: &'a Plan,
 ) -> Result<Run<'a>, AllocError>
-    requires sound { IsSound rv_kind IsInstr l.now.names l.now.image }
+    requires sound { IsSound (kind_of l.now.code) (IsInstrOf l.now.code) l.now.names (image_of l.now.code) }
     requires functions { length l.now.names ≡ length program.now.source.functions }
     requires plan { IsPlan (length program.now.source.functions) plan.now }
-    ensures of { IfOk result (IsOf l.entry.now.image program.entry.now plan.entry.now) }
+    ensures of { IfOk result (IsOf l.entry.now.code program.entry.now plan.entry.now) }
     ensures begins { IfOk result (λ r. r.ended ≡ false) }
 {
     let events = total(plan.items.as_slice());
-    let machine = start(alloc, &l.image, program, plan.entries.as_slice(), events)?;
+    let machine = start(alloc, &l.code, program, plan.entries.as_slice(), events)?;
     Ok(Run {
-        program,
+        code: &l.code,
         plan,
         machine,
         ended: false,
@@ -86,13 +86,14 @@ impl<'a> Run<'a> {
         ensures ran { HasRun self.new }
         ensures ended { self.new.ended ≡ true }
         ensures again { self.old.ended ≡ true → self.new ≡ self.old }
-        ensures kept { IsOf self.old.machine.image self.old.program self.old.plan self.new }
+        ensures kept { IsOf self.old.code self.old.program self.old.plan self.new }
     {
         if self.ended {
             return;
         }
+        let target = self.machine.target();
         self.machine
-            .perform(self.plan.items.as_slice(), self.program.target());
+            .perform(self.code, self.plan.items.as_slice(), target);
         self.ended = true;
     }
 
@@ -109,7 +110,7 @@ impl<'a> Run<'a> {
         requires { HasElement self.now.program.layout g i }
         ensures { Reads self.now (λ m. object_in self.now.program m.noted.storage.mem g i) result }
     {
-        object_in(self.program, &self.machine.store, g, i)
+        object_in(self.machine.program, &self.machine.store, g, i)
     }
 
     /// What a processor is doing.
@@ -144,12 +145,12 @@ impl<'a> Run<'a> {
         self.machine.cpus.len() as u8
     }
 
-    /// How many stores of a processor to native objects wait: none, as no store waits on RV64.
+    /// How many stores of a processor to native objects wait.
     pub fn pending(&self, p: u8) -> u64
         requires { p < length self.now.machine.processors }
         ensures { Reads self.now (λ m. length (native_entries self.now.program (m.noted.storage.waiting p))) result }
     {
-        self.machine.store.pending(p) as u64
+        self.machine.pending(p)
     }
 
     /// The word of lock i, of 256.

@@ -10,6 +10,7 @@ use Rattle.ax_x86.specs.Instructions.{IsInstr, x86_kind}
 use Rattle.ax_emit_x86.specs.Code.{Expansion, piece_of}
 use Rattle.ax_image.specs.Image.{Coding}
 use Rattle.ax_selected.specs.Registers.{key}
+use Rattle.ax_cas.specs.Codes.{Atomic, expansion_of}
 use Rattle.ax_sound.specs.Pieces.{HasSoundPieces}
 use Rattle.ax_sound_x86.specs.Operations.{AreSoundExpansions}
 
@@ -22,3 +23,7 @@ abbrev pub X86PiecesAreSound : Type 0
 X86PiecesAreSound =
     (target : Target) (depth frame_size : ℕ) (behind : ℕ → ℕ) (expansions : Op → Width → Order → Bool → Expansion) → 32768 < depth → IsFrameSize frame_size → AreSoundExpansions target expansions
     → HasSoundPieces x86_kind IsInstr target behind (x86_coding depth frame_size behind expansions)
+
+-- AND SO IS THAT OF ATOMIC OPERATIONS
+abbrev pub X86OperationsAreSound : Type 0
+X86OperationsAreSound = (target : Target) → AreSoundExpansions target (λ o width order weak. expansion_of (Atomic o width order weak))

@@ -1,6 +1,6 @@
 //! What holds of x86-64's code of each middle instruction.
 
-ghost use Rattle.ax_sound_x86.specs.Laws.{X86PiecesAreSound};
+ghost use Rattle.ax_sound_x86.specs.Laws.{X86OperationsAreSound, X86PiecesAreSound};
 
 use ax_emit_x86::line_code_is_steady;
 use ax_mid::Virtual;
@@ -14,3 +14,8 @@ pub fn x86_pieces_are_sound()
 {
     line_code_is_steady::<Virtual>();
 }
+
+/// The code of atomic operations is sound, on each target.
+pub fn x86_operations_are_sound()
+    ensures { X86OperationsAreSound }
+{}

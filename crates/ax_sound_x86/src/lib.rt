@@ -3,4 +3,4 @@
 
 pub mod laws;
 
-pub use laws::x86_pieces_are_sound;
+pub use laws::{x86_operations_are_sound, x86_pieces_are_sound};

@@ -1,9 +1,7 @@
 //! Instructions of AArch64, each kind of spelling once: most write x1 from x2 and x3, or access the
 //! bytes at x2.
 
-use crate::spelled::{PLACE, Spelled};
 use ax_arm::{Alu, ArmInstr, Barrier, Condition, Ending, Extension, Lse, Shift, Size};
-use ax_arm_text::push_instr;
 use ax_words::RoutineName;
 use std::alloc::{AllocError, Global};
 
@@ -52,12 +50,6 @@ const LOCKED: [Lse; 9] = [
     Lse::Ldumax,
     Lse::Ldumin,
 ];
-
-impl Spelled for ArmInstr {
-    fn push_to(&self, out: &mut String) -> Result<(), AllocError> {
-        push_instr(out, PLACE as usize, self)
-    }
-}
 
 /// Of registers alone.
 fn push_registers(all: &mut Vec<ArmInstr>) -> Result<(), AllocError> {

@@ -1,5 +1,5 @@
 //! Rows of calls of the machine's instructions: effects, instructions of three sets by their spellings,
-//! report lines, and an image as text.
+//! report lines, and images as texts.
 #![tactic(auto)]
 
 mod arm;
@@ -100,7 +100,7 @@ impl Calls for Instructions {
             ["event", event, p] => self.happened(alloc, event, p),
             ["spellings", set] => Ok(spellings(alloc, set_of(set)?)?),
             ["step", place, effect @ ..] => steps::stepped(alloc, place, effect),
-            ["printed"] => Ok(printed::printed(alloc, texts)?),
+            ["printed", set] => printed::printed(alloc, set_of(set)?, texts),
             _ => reports::answer(alloc, words),
         }
     }

@@ -1,12 +1,16 @@
-//! An image as text.
+//! Images as texts.
 
-use ax_isa::{Image, SiteRange, Tag};
-use ax_lowered::Lowered;
+ghost use Rattle.std.specs.Prelude.{◌≡◌, IfOk, length};
+ghost use Rattle.ax_lowered.specs.Code.{image_of};
+
+use crate::sets::Set;
+use crate::spelled::instruction_of;
+use ax_isa::{Image, Role, RoutineRange, SiteRange, Tag};
+use ax_lowered::{Code, Lowered, Target};
 use ax_module::Name;
-use ax_print::print;
+use ax_print::{Spelled, print};
 use ax_rows::Fault;
-use ax_rv::{Amo, Binary, Ending, FenceSets, LoadForm, RvInstr, Size};
-use ax_words::{Items, Site};
+use ax_words::{Items, RoutineName, Site};
 use std::alloc::{AllocError, Global};
 
 /// The text itself where it is not the expected one.
@@ -18,55 +22,22 @@ fn compared(alloc: Global, text: String, expected: &[u8]) -> Result<String, Allo
     }
 }
 
-/// The instruction of its words: registers by their numbers, and a displacement behind its register.
-fn instruction(words: &[&str]) -> Result<RvInstr, Fault> {
-    match words {
-        ["li", rd, n] => Ok(RvInstr::Li {
-            rd: rd.parse::<u8>()?,
-            n: n.parse::<u64>()?,
-        }),
-        ["add", rd, rs1, rs2] => Ok(RvInstr::Binary {
-            op: Binary::Add,
-            rd: rd.parse::<u8>()?,
-            rs1: rs1.parse::<u8>()?,
-            rs2: rs2.parse::<u8>()?,
-        }),
-        ["ld", rd, d, rs1] => Ok(RvInstr::Load {
-            form: LoadForm::Double,
-            rd: rd.parse::<u8>()?,
-            d: d.parse::<i16>()?,
-            rs1: rs1.parse::<u8>()?,
-        }),
-        ["fence.r.rw"] => Ok(RvInstr::Fence(FenceSets::ReadBeforeAll)),
-        ["amoadd.d.aqrl", rd, rs2, rs1] => Ok(RvInstr::Amo {
-            op: Amo::Add,
-            size: Size::Double,
-            ending: Ending::AcquireRelease,
-            rd: rd.parse::<u8>()?,
-            rs2: rs2.parse::<u8>()?,
-            rs1: rs1.parse::<u8>()?,
-        }),
-        ["ret"] => Ok(RvInstr::Ret),
-        _ => Err(Fault::Row),
-    }
-}
-
-fn instructions(alloc: Global, text: &[u8]) -> Result<Vec<RvInstr>, Fault> {
+/// The instructions of these that are spelled so, one behind each `;`.
+fn instructions<I: Spelled + Copy>(alloc: Global, all: &[I], text: &[u8]) -> Result<Vec<I>, Fault> {
     let text = str::from_utf8(text).map_err(|_| Fault::Row)?;
     let mut code = Vec::new(alloc);
-    for part in text.split(';') {
-        let words = part.split_whitespace().collect::<Vec<&str>>(alloc)?;
-        code.push(instruction(words.as_slice())?)?;
+    for spelling in text.split("; ") {
+        code.push(*instruction_of(alloc, all, spelling)?)?;
     }
     Ok(code)
 }
 
-/// Whether the first text is the assembly of `@f`, whose code is the second, whose instruction 3 has
-/// the places 1 to 6, and whose frame has 40 bytes. The third of its tags is an Act.
-pub(crate) fn printed(alloc: Global, texts: &[Vec<u8>]) -> Result<String, Fault> {
-    let [expected, code] = texts else {
-        return Err(Fault::Row);
-    };
+/// An image of these instructions, six of which have tags: instruction 3 of function 0 has the places
+/// 1 to 6, a routine has 5 and 6, and the frame of the function has 40 bytes.
+fn image<I: Spelled + Copy>(alloc: Global, all: &[I], text: &[u8]) -> Result<Image<I>, Fault>
+    ensures entries { IfOk result (λ i. length i.entries ≡ 1) }
+    ensures frames { IfOk result (λ i. length i.frames ≡ 1) }
+{
     let site = Site {
         function: 0,
         instruction: 3,
@@ -76,17 +47,76 @@ pub(crate) fn printed(alloc: Global, texts: &[Vec<u8>]) -> Result<String, Fault>
         first: 1,
         last: 6,
     };
-    let tags = [Tag::Silent, Tag::Silent, Tag::Act];
-    let image = Image {
-        code: Items::of(instructions(alloc, code.as_slice())?),
+    let routine = RoutineRange {
+        routine: RoutineName::Load16.number(),
+        first: 5,
+        last: 6,
+    };
+    let linked = Tag::Linked {
+        weak: true,
+        expected: 3,
+        mask: None,
+    };
+    let freed = Tag::Free { stored: Some(4) };
+    let call = Tag::Call(Role::Probe);
+    let tags = [Tag::Silent, Tag::Stored, Tag::Act, linked, call, freed];
+    Ok(Image {
+        code: Items::of(instructions(alloc, all, text)?),
         tags: Items::of(Vec::from_slice(alloc, tags.as_slice())?),
         sites: Items::of(Vec::from_slice(alloc, [range].as_slice())?),
-        routines: Items::of(Vec::new(alloc)),
+        routines: Items::of(Vec::from_slice(alloc, [routine].as_slice())?),
         entries: Items::of(Vec::from_slice(alloc, [1].as_slice())?),
         frames: Items::of(Vec::from_slice(alloc, [40].as_slice())?),
-    };
+    })
+}
+
+/// The assembly of the function `@f` with this image.
+fn text_of(alloc: Global, target: Target, code: Code) -> Result<String, AllocError>
+    requires entries { length (image_of code).entries ≡ 1 }
+    requires frames { length (image_of code).frames ≡ 1 }
+{
     let name = Name::of(Vec::from_slice(alloc, b"f")?);
     let names = Items::of(Vec::from_array(alloc, [name])?);
-    let text = print(alloc, &Lowered { names, image })?;
+    print(
+        alloc,
+        &Lowered {
+            target,
+            names,
+            code,
+        },
+    )
+}
+
+/// The assembly of instructions of a set, by their spellings.
+fn assembly(alloc: Global, set: Set, text: &[u8]) -> Result<String, Fault> {
+    match set {
+        Set::Rv => {
+            let all = crate::rv::instructions(alloc)?;
+            let code = Code::Rv(image(alloc, all.as_slice(), text)?);
+            let target = Target::Rv {
+                zabha: false,
+                zacas: false,
+            };
+            Ok(text_of(alloc, target, code)?)
+        }
+        Set::X86 => {
+            let all = crate::x86::instructions(alloc)?;
+            let code = Code::X86(image(alloc, all.as_slice(), text)?);
+            Ok(text_of(alloc, Target::X86 { cx16: false }, code)?)
+        }
+        Set::Arm => {
+            let all = crate::arm::instructions(alloc)?;
+            let code = Code::Arm(image(alloc, all.as_slice(), text)?);
+            Ok(text_of(alloc, Target::Arm { lse: true }, code)?)
+        }
+    }
+}
+
+/// Whether the first text is the assembly of the second.
+pub(crate) fn printed(alloc: Global, set: Set, texts: &[Vec<u8>]) -> Result<String, Fault> {
+    let [expected, code] = texts else {
+        return Err(Fault::Row);
+    };
+    let text = assembly(alloc, set, code.as_slice())?;
     Ok(compared(alloc, text, expected.as_slice())?)
 }

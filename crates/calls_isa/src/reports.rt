@@ -7,6 +7,7 @@ use ax_print::{
     push_source,
 };
 use ax_rows::{Fault, token};
+use ax_target::named;
 use ax_words::{Event, SourceEvent};
 use std::alloc::{AllocError, Global};
 
@@ -72,8 +73,10 @@ fn on_one_line(alloc: Global, text: &str) -> Result<String, AllocError> {
 pub(crate) fn answer(alloc: Global, words: &[&str]) -> Result<String, Fault> {
     let mut out = String::new(alloc);
     match words {
-        ["head", processors, events] => {
-            push_head(&mut out, processors.parse::<u8>()?, events.parse::<u64>()?)?;
+        ["head", target, processors, events] => {
+            let target = named(target).ok_or(Fault::Row)?;
+            let (processors, events) = (processors.parse::<u8>()?, events.parse::<u64>()?);
+            push_head(&mut out, target, processors, events)?;
         }
         ["outputs", words @ ..] => push_outputs(&mut out, outputs(alloc, words)?.as_slice())?,
         ["object", i, number] => {

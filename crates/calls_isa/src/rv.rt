@@ -1,7 +1,5 @@
 //! Instructions of RV64, each kind of spelling once: most write t0 from t1 and t2.
 
-use crate::spelled::{PLACE, Spelled};
-use ax_print::push_instr;
 use ax_rv::{
     Amo, Binary, Condition, Ending, FenceSets, Immediate, LoadForm, RvInstr, Shift, Size,
     StoreForm, Unary,
@@ -85,12 +83,6 @@ const FENCES: [FenceSets; 4] = [
     FenceSets::AllBeforeAll,
     FenceSets::TotalStoreOrder,
 ];
-
-impl Spelled for RvInstr {
-    fn push_to(&self, out: &mut String) -> Result<(), AllocError> {
-        push_instr(out, PLACE as u64, self)
-    }
-}
 
 /// Of registers alone.
 fn push_registers(all: &mut Vec<RvInstr>) -> Result<(), AllocError> {

@@ -1,16 +1,11 @@
 //! Instructions by their spellings.
 
+use ax_print::Spelled;
 use ax_rows::Fault;
 use std::alloc::{AllocError, Global};
 
 /// The place of each instruction that is spelled.
 pub(crate) const PLACE: u32 = 100;
-
-/// An instruction that has a spelling.
-pub(crate) trait Spelled {
-    /// Appends the text of the instruction, which stands at place 100.
-    fn push_to(&self, out: &mut String) -> Result<(), AllocError>;
-}
 
 /// The instruction of these that is spelled so.
 pub(crate) fn instruction_of<'a, I: Spelled>(
@@ -20,7 +15,7 @@ pub(crate) fn instruction_of<'a, I: Spelled>(
 ) -> Result<&'a I, Fault> {
     for i in all {
         let mut text = String::new(alloc);
-        i.push_to(&mut text)?;
+        i.push_to(&mut text, PLACE as usize)?;
         if text.as_str() == spelling {
             return Ok(i);
         }
@@ -32,7 +27,7 @@ pub(crate) fn instruction_of<'a, I: Spelled>(
 pub(crate) fn listed<I: Spelled>(alloc: Global, all: &[I]) -> Result<String, AllocError> {
     let mut out = String::new(alloc);
     for i in all {
-        i.push_to(&mut out)?;
+        i.push_to(&mut out, PLACE as usize)?;
         out.push_str(" / ")?;
     }
     Ok(out)

@@ -1,10 +1,8 @@
 //! Instructions of x86-64, each kind of spelling once: most write rcx from rdx, or access the bytes
 //! at rbp.
 
-use crate::spelled::{PLACE, Spelled};
 use ax_words::RoutineName;
 use ax_x86::{Alu, Condition, Extension, MemoryOperand, Shift, Size, X86Instr};
-use ax_x86_text::push_instr;
 use std::alloc::{AllocError, Global};
 
 const ALUS: [Alu; 6] = [Alu::Add, Alu::Sub, Alu::And, Alu::Or, Alu::Xor, Alu::Imul];
@@ -39,12 +37,6 @@ const AT_RBP: MemoryOperand = MemoryOperand {
     displacement: 0,
     base: 5,
 };
-
-impl Spelled for X86Instr {
-    fn push_to(&self, out: &mut String) -> Result<(), AllocError> {
-        push_instr(out, PLACE as usize, self)
-    }
-}
 
 /// Each register under each of its names.
 fn push_names(all: &mut Vec<X86Instr>) -> Result<(), AllocError> {

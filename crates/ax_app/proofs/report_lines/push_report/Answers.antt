@@ -12,7 +12,7 @@ returns c m h =
     let run = c.args.run.now in
     let x0 = string_bytes c.args.out.now in
     let n = length run.plan.entries in
-    let a1 = head_lines n (length run.machine.events) in
+    let a1 = head_lines run.program.target n (length run.machine.events) in
     let a2 = flat_map output_line m.outputs in
     let a3 = object_part run.program m.noted.storage.mem 0 (map (λ (x : Global). x.name) c.args.globals.now) in
     let a4 = processor_part run.program m 0 n in
@@ -26,13 +26,17 @@ returns c m h =
     let x5 = string_bytes c.push_locks.new.out in
     let x6 = string_bytes c.push_source.new.out in
     let x7 = string_bytes c.push_machine.new.out in
-    let e1 : x1 ≡ x0 ++ a1 = c.in_ok-push_head.ensures ∙ ap (λ p. x0 ++ head_lines p (length c.machine_schedule.result.now)) c.processors.ensures.number ∙ ap (λ es. x0 ++ head_lines n (length es)) c.machine_schedule.ensures in
+    let e1 : x1 ≡ x0 ++ a1 =
+    c.in_ok-push_head.ensures
+    ∙ ap (λ t. x0 ++ head_lines t c.processors.result (length c.machine_schedule-events.result.now)) c.requires.target
+    ∙ ap (λ p. x0 ++ head_lines run.program.target p (length c.machine_schedule-events.result.now)) c.processors.ensures.number
+    ∙ ap (λ es. x0 ++ head_lines run.program.target n (length es)) c.machine_schedule-events.ensures in
     let e2 : x2 ≡ x1 ++ a2 = c.in_ok-push_outputs.ensures ∙ ap (λ l. x1 ++ flat_map output_line l) (c.outputs.ensures m h) in
     let e3 : x3 ≡ x2 ++ a3 = c.in_ok-push_objects.ensures m h in
     let e4 : x4 ≡ x3 ++ a4 = c.in_ok-push_processors.ensures m h in
     let e5 : x5 ≡ x4 ++ a5 = c.in_ok-push_locks.ensures m h in
     let e6 : x6 ≡ x5 ++ a6 = c.in_ok-push_source.ensures ∙ ap (λ l. x5 ++ source_lines l) c.source_schedule.ensures in
-    let e7 : x7 ≡ x6 ++ a7 = c.in_ok-push_machine.ensures ∙ ap (λ l. x6 ++ machine_lines l) c.machine_schedule-2.ensures in
+    let e7 : x7 ≡ x6 ++ a7 = c.in_ok-push_machine.ensures ∙ ap (λ l. x6 ++ machine_lines l) c.machine_schedule-events.ensures in
     let b2 = more x0 x1 x2 a1 a2 e1 e2 in
     let b3 = more x0 x2 x3 (a1 ++ a2) a3 b2 e3 in
     let b4 = more x0 x3 x4 (a1 ++ a2 ++ a3) a4 b3 e4 in

@@ -1,12 +1,12 @@
-use Rattle.std.proofs.Common.{◌≡◌, ◌++◌, length, sym, ap, ◌∙◌, subst}
+use Rattle.std.proofs.Common.{◌≡◌, true, ◌++◌, length, sym, ap, ◌∙◌, subst}
 use Rattle.std.specs.Prelude.{All}
 use Rattle.std.specs.String.{string_bytes}
 use Rattle.std.proofs.lemmas.List.{length-map}
 use Rattle.ax_module.specs.declared.module.Function.{Function}
 use Rattle.ax_module.specs.Names.{IsAscii}
 use Rattle.ax_agree.specs.Sound.{IsSound}
-use Rattle.ax_rv.specs.Instructions.{IsInstr, rv_kind}
-use Rattle.ax_print.specs.Assembly.{assembly_text}
+use Rattle.ax_lowered.specs.Code.{IsInstrOf, image_of, is_for, kind_of}
+use Rattle.ax_print.specs.Lowered.{code_text}
 use Rattle.ax_run.specs.Run.{IsOf}
 use Rattle.ax_app.specs.Serve.{assembly_of, report_of}
 use Rattle.ax_app.proofs.text.text_of.Goals as goal
@@ -26,24 +26,27 @@ pub returns : goal.returns
 returns c =
     let p = c.args.accepted.now in
     let plan = c.args.plan.now in
-    let image = c.in_ok-lowered.lowered.image in
+    let l = c.in_ok-lowered.lowered in
+    let code = l.code in
     let r = c.go.new.self in
-    let of : IsOf image p plan r = record {
-      image_is = c.go.ensures.kept.image_is ∙ c.in_ok-run.ensures.of.image_is;
+    let of : IsOf code p plan r = record {
+      code_is = c.go.ensures.kept.code_is ∙ c.in_ok-run.ensures.of.code_is;
       program_is = c.go.ensures.kept.program_is ∙ c.in_ok-run.ensures.of.program_is;
       plan_is = c.go.ensures.kept.plan_is ∙ c.in_ok-run.ensures.of.plan_is;
     } in
+    let target = c.in_ok-lowered.ensures.target in
     let named = c.in_ok-lowered.ensures.names in
-    let head : string_bytes c.in_ok-text.text ≡ assembly_of p image = c.in_ok-text.ensures ∙ ap (λ names. assembly_text names image) named in
+    let head : string_bytes c.in_ok-text.text ≡ assembly_of p code = c.in_ok-text.ensures ∙ ap (λ t. code_text t l.names code) target ∙ ap (λ names. code_text p.target names code) named in
     record {
-      image = image;
+      code = code;
       of = record {
+        set = subst (λ t. is_for t code ≡ true) target c.in_ok-lowered.ensures.set;
         lowers = c.in_ok-lowered.ensures.lowers;
         busy = c.in_ok-lowered.ensures.busy;
         rows = c.in_ok-lowered.ensures.rows;
-        sound = subst (λ names. IsSound rv_kind IsInstr names image) named c.in_ok-lowered.ensures.sound;
+        sound = subst (λ names. IsSound (kind_of code) (IsInstrOf code) names (image_of code)) named c.in_ok-lowered.ensures.sound;
       };
-      whole = c.in_ok-push_report_of.ensures ∙ ap (λ h. h ++ report_of p r.machine.image r.plan) head
-          ∙ ap (λ i. assembly_of p image ++ report_of p i r.plan) of.image_is
-          ∙ ap (λ q. assembly_of p image ++ report_of p image q) of.plan_is;
+      whole = c.in_ok-push_report_of.ensures ∙ ap (λ h. h ++ report_of p r.code r.plan) head
+          ∙ ap (λ i. assembly_of p code ++ report_of p i r.plan) of.code_is
+          ∙ ap (λ q. assembly_of p code ++ report_of p code q) of.plan_is;
     }

@@ -3,4 +3,4 @@ use Rattle.ax_print.specs.Assembly.{routine_line}
 use Rattle.ax_print.proofs.assembly.push_routines.Given as goal
 
 abbrev pub invariant-loop-range : goal.invariant-loop-range
-invariant-loop-range l = string_bytes l.out ≡ string_bytes l.initial.out ++ flat_map routine_line (take l.range-index l.routines)
+invariant-loop-range l = string_bytes l.out ≡ string_bytes l.initial.out ++ flat_map (routine_line l.mark) (take l.range-index l.routines)

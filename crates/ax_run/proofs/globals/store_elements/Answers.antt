@@ -21,12 +21,12 @@ loop-i-preserved c =
     let p = c.args.program.now in
     let g = c.args.g in
     let i = c.loop-i.i in
-    stored_more p g i c.args.store.now c.loop-i.store c.store.new.self c.address-address.result c.element_bytes-bytes.result c.first_number.result c.loop-i.invariant c.requires.unbuffered
+    stored_more p g i c.args.store.now c.loop-i.store c.put_number.new.store c.address-address.result c.element_bytes-bytes.result c.first_number.result c.loop-i.invariant
     (c.address-address.ensures ∙ ap (λ (l : LayoutState). address_in l g i) c.layout.ensures)
     c.element_bytes-bytes.ensures.bytes
     (c.first_number.ensures ∙ sym (ap (λ o. constants_of o i) c.requires.global))
     (lies p c.is_without_faults.ensures c.accepted_can_be_laid_out.ensures c.objects_are_apart.ensures.globals g c.args.global.now c.requires.global c.objects_are_apart.ensures.lie i c.loop-i-test.true)
-    c.store.ensures.storage c.store.ensures.kept
+    c.put_number.ensures.storage c.put_number.ensures.kept
 
 pub returns-clause-storage : goal.returns-clause-storage
 returns-clause-storage c =

@@ -3,4 +3,4 @@ use Rattle.ax_run.specs.Start.{cpus_from}
 use Rattle.ax_run.proofs.start.cpus.Given as goal
 
 abbrev pub invariant-loop-p : goal.invariant-loop-p
-invariant-loop-p l = l.cpus.items ++ cpus_from l.places l.p (drop l.p l.entries) ≡ cpus_from l.places 0 l.entries
+invariant-loop-p l = l.cpus.items ++ cpus_from l.stack l.places l.p (drop l.p l.entries) ≡ cpus_from l.stack l.places 0 l.entries

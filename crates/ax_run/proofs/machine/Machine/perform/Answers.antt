@@ -1,30 +1,23 @@
-use Rattle.std.proofs.Common.{◌≡◌, ◌+◌, ◌<◌, ◌≤◌, ◌++◌, length, ap, sym, ◌∙◌, drop, get_or, arith, List}
-use Rattle.std.specs.List.{sum_by}
-use Rattle.std.proofs.lemmas.List.{at_drop_more}
-use Rattle.std.proofs.lemmas.List.Sums.{sum_by-cons}
-use Rattle.ax_sched.specs.declared.plan.Item.{Item}
-use Rattle.ax_sched.specs.declared.plan.Item.TheVariants.{Step}
-use Rattle.ax_sched.specs.Events.{events_of}
-use Rattle.ax_sched.specs.Plan.{times_of}
-use Rattle.ax_run.specs.Machine.{run_of, seen_in}
-use Rattle.ax_run.proofs.Plans.{item_made}
+use Rattle.std.proofs.Common.{sym, subst}
+use Rattle.ax_lowered.specs.declared.lowered.Code.{Code}
+use Rattle.ax_lowered.specs.Code.{IsInstrOf, image_of, kind_of}
+use Rattle.ax_run.specs.Machine.{MayRun, Performed}
 use Rattle.ax_run.proofs.machine.Machine.perform.Goals as goal
 
-pub loop-item-preserved : goal.loop-item-preserved
-loop-item-preserved c =
-    let far = c.loop-item.invariant in
-    let kept = far.3 in
-    let more = c.repeat.ensures.kept in
-    let items = c.args.items.now in
-    let i = c.loop-item.item-index in
-    let item = get_or items i (Step 0 0) in
-    let was = c.loop-item.self in
-    let sums : sum_by times_of (drop i items) ≡ times_of item + sum_by times_of (drop (i + 1) items) = at_drop_more (λ (l : List Item). sum_by times_of l) items i (Step 0 0) c.loop-item-test.true ∙ sum_by-cons times_of item (drop (i + 1) items) in
-    let room = far.2 in
-    let left = c.repeat.ensures.room in (
-      λ start told. c.repeat.ensures.tells start (far.0 start told),
-      λ start told. item_made c.args.target c.args.self.now was c.repeat.new.self kept more item (drop (i + 1) items) start (c.repeat.ensures.events start (far.0 start told))
-          ∙ sym (at_drop_more (λ (l : List Item). was.events ++ events_of (seen_in c.args.self.now) c.args.target l (run_of was start)) items i (Step 0 0) c.loop-item-test.true) ∙ far.1 start told,
-      omega (arith, sums, room, left),
-      record { image = more.image ∙ kept.image; count = more.count ∙ kept.count },
-    )
+pub perform_image-requires-clause-runs : goal.perform_image-requires-clause-runs
+perform_image-requires-clause-runs c = subst (λ (code : Code). MayRun (kind_of code) (IsInstrOf code) (image_of code) c.args.self.now) c.in-X86.is c.requires.runs
+
+pub perform_image-requires-in-Arm-clause-runs : goal.perform_image-requires-in-Arm-clause-runs
+perform_image-requires-in-Arm-clause-runs c = subst (λ (code : Code). MayRun (kind_of code) (IsInstrOf code) (image_of code) c.args.self.now) c.in-Arm.is c.requires.runs
+
+pub perform_image-requires-in-Rv-clause-runs : goal.perform_image-requires-in-Rv-clause-runs
+perform_image-requires-in-Rv-clause-runs c = subst (λ (code : Code). MayRun (kind_of code) (IsInstrOf code) (image_of code) c.args.self.now) c.in-Rv.is c.requires.runs
+
+pub returns-in-X86 : goal.returns-in-X86
+returns-in-X86 c = subst (λ (code : Code). Performed (kind_of code) (image_of code) c.args.items.now c.args.target c.args.self.now c.perform_image.new.self) (sym c.in-X86.is) c.perform_image.ensures
+
+pub returns-in-Arm : goal.returns-in-Arm
+returns-in-Arm c = subst (λ (code : Code). Performed (kind_of code) (image_of code) c.args.items.now c.args.target c.args.self.now c.perform_image-in-Arm.new.self) (sym c.in-Arm.is) c.perform_image-in-Arm.ensures
+
+pub returns-in-Rv : goal.returns-in-Rv
+returns-in-Rv c = subst (λ (code : Code). Performed (kind_of code) (image_of code) c.args.items.now c.args.target c.args.self.now c.perform_image-in-Rv.new.self) (sym c.in-Rv.is) c.perform_image-in-Rv.ensures

@@ -1,0 +1,17 @@
+pub mod Rows
+pub mod Ends
+pub mod Rounds
+pub mod Compares
+pub mod Running
+pub mod Widths
+pub mod Acts
+pub mod Accesses
+pub mod Inline
+pub mod Values
+pub mod Narrow
+pub mod WideValues
+pub mod Wide
+pub mod WideLoops
+pub mod Counts
+pub mod Coded
+pub mod Emitted
